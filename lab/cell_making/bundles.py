@@ -7,11 +7,11 @@ from bbmlab_core.route.balls import Ball, ExactRun, Mirror, block_cells, mirror_
 from bbmlab_core.texts.certificates import MAX_BOX_SIDE, Certificate, Stop, local_wires, whole_module
 from bbmlab_core.texts.circuits import Circuit, evaluate_all
 from bbmlab_core.texts.documents import read_document
-from bbmlab_core.texts.gates import Table
+from bbmlab_core.texts.gates import TruthTable
 from bbmlab_core.texts.layouts import Box, Cell, Layout, Port, row_order_key
 
 # Dead cells between the machine and the rim, so that nothing is live on the rim.
-MARGIN = 2
+MARGIN_TO_RIM = 2
 
 
 @dataclass
@@ -57,10 +57,10 @@ def read_circuit(text: str) -> Circuit:
     return document.circuit
 
 
-def run_machine(machine: Machine, tables: dict[str, Table], full: Table) -> ExactRun:
+def run_machine(machine: Machine, tables: dict[str, TruthTable], full: TruthTable) -> ExactRun:
     """Returns the run of a machine under all its inputs. Raises ValueError if a mirror breaks or an output is wrong."""
-    start = [(ball.at(0), tables[name]) for name, ball in machine.ins.items()] + [(ball.at(0), full)
-                                                                                  for ball in machine.constants]
+    start = [*((ball.at_time(0), tables[name]) for name, ball in machine.ins.items()),
+             *((ball.at_time(0), full) for ball in machine.constants)]
     run = run_exactly(mirror_cells(machine.mirrors), start_state(start), 0, machine.last_time)
     if not run.is_stable:
         raise ValueError(f"{machine.name}: a mirror breaks in the step from time {len(run.blocks)}")
@@ -76,12 +76,12 @@ def offset_and_size(machine: Machine, run: ExactRun) -> tuple[int, int, int, int
     cells = mirror_cells(machine.mirrors) | {cell for corners in run.blocks for corner in corners
                                              for cell in block_cells(corner)}
     columns, rows = [x for x, _ in cells], [y for _, y in cells]
-    left, top = min(columns) // 2 * 2 - MARGIN, min(rows) // 2 * 2 - MARGIN
-    width, height = (largest - least + 1 + MARGIN for largest, least in ((max(columns), left), (max(rows), top)))
+    left, top = min(columns) // 2 * 2 - MARGIN_TO_RIM, min(rows) // 2 * 2 - MARGIN_TO_RIM
+    width, height = (largest - least + 1 + MARGIN_TO_RIM for largest, least in ((max(columns), left), (max(rows), top)))
     return -left, -top, width + width % 2, height + height % 2
 
 
-def rectangles(cells: set[Cell]) -> list[Mirror]:
+def rectangles_of_cells(cells: set[Cell]) -> list[Mirror]:
     """Returns disjoint rectangles with these cells: rows as wide as they go, then as high as they go."""
     left, found = set(cells), []
     for x, y in sorted(cells, key=row_order_key):
@@ -104,22 +104,22 @@ def bundle_text(machine: Machine) -> str:
     run = run_machine(machine, values.tables, values.full)
     dx, dy, width, height = offset_and_size(machine, run)
 
-    def shifted(ball: Ball) -> list[Cell]:
+    def layout_cells(ball: Ball) -> list[Cell]:
         """Returns the cells of a ball in the layout."""
         return [(x + dx, y + dy) for x, y in ball.cells()]
 
     def ports(balls: dict[str, Ball], time: int) -> tuple[Port, ...]:
         """Returns the cells of balls at a time, with their names."""
-        return tuple(Port(name, x, y) for name, ball in balls.items() for x, y in shifted(ball.at(time)))
+        return tuple(Port(name, x, y) for name, ball in balls.items() for x, y in layout_cells(ball.at_time(time)))
 
     outs = ports(machine.outs, machine.last_time)
     wastes = {(x + dx, y + dy) for x, y in run.states[-1]} - {port.cell for port in outs}
-    mirrors = rectangles({(x + dx, y + dy) for x, y in mirror_cells(machine.mirrors)})
-    balls = tuple(cell for ball in machine.constants for cell in shifted(ball.at(0)))
+    mirrors = rectangles_of_cells({(x + dx, y + dy) for x, y in mirror_cells(machine.mirrors)})
+    balls = tuple(cell for ball in machine.constants for cell in layout_cells(ball.at_time(0)))
     layout = Layout(width, height, machine.last_time,
                     tuple(Box(mirror.x, mirror.y, mirror.width, mirror.height) for mirror in mirrors), balls,
                     ports(machine.ins, 0), outs, tuple(sorted(wastes, key=row_order_key)))
-    stops = [Stop(ball.time, name, *cell) for name, ball in machine.balls_with_stops() for cell in shifted(ball)]
+    stops = [Stop(ball.time, name, *cell) for name, ball in machine.balls_with_stops() for cell in layout_cells(ball)]
     certificate = with_stops(certificate_for(circuit, layout), circuit, stops)
     return f"{circuit}{layout}{certificate}"
 

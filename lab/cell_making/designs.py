@@ -5,13 +5,13 @@ The gates are those of Fredkin and Toffoli 1982. The mirrors of the larger machi
 
 from dataclasses import replace
 
-from bbmlab_core.route.balls import Ball, Leg, Mirror, Turn, follow_legs
-from bbmlab_core.route.cells import GateCell, base_cells
+from bbmlab_core.route.balls import Ball, BounceKind, Leg, Mirror, follow_legs
+from bbmlab_core.route.cells import GateCell, base_gate_cells
 
-from .bundles import Machine, rectangles
+from .bundles import Machine, rectangles_of_cells
 from .full_adder import full_adder_machine
 
-FLAT, UPRIGHT = Turn.FLAT, Turn.UPRIGHT
+FLAT, UPRIGHT = BounceKind.FLAT, BounceKind.UPRIGHT
 # The steps from the start of a cell's run until its inputs arrive.
 LEAD_IN_STEPS = 4
 
@@ -38,25 +38,26 @@ def delay_machine(steps: int) -> Machine:
 def crossing_machine() -> Machine:
     """Returns two balls whose tracks cross. The second is at the crossing four steps after the first."""
     ins = {"a": Ball(4, 4, 1, 1, LEAD_IN_STEPS), "b": Ball(0, 17, 1, -1, LEAD_IN_STEPS)}
-    return Machine("crossing", [], ins, {name: ball.flown(20) for name, ball in ins.items()})
+    return Machine("crossing", [], ins, {name: ball.after_flight(20) for name, ball in ins.items()})
 
 
 def collision_machine() -> Machine:
     """Returns two balls that meet at a right angle, without a mirror."""
     ins = {"p": Ball(4, 4, 1, 1, LEAD_IN_STEPS), "q": Ball(4, 17, 1, -1, LEAD_IN_STEPS)}
-    late = {name: ball.moved(-2, 0, 0) for name, ball in ins.items()}
+    late = {name: ball.shifted_by(-2, 0, 0) for name, ball in ins.items()}
     outs = {"a": late["q"], "b": ins["q"], "c": ins["p"], "d": late["p"]}
-    return Machine("collision", ["interact p q -> a b c d"], ins, {name: ball.flown(14) for name, ball in outs.items()})
+    return Machine("collision", ["interact p q -> a b c d"], ins,
+                   {name: ball.after_flight(14) for name, ball in outs.items()})
 
 
 def gate_machine(name: str, cell: GateCell) -> Machine:
     """Returns the machine of a gate's cell. Its inputs arrive together, when the first of them has to."""
     arrival = min(ball.time for ball in cell.ins.values())
     shift = LEAD_IN_STEPS - arrival + arrival % 2
-    ins = {port: ball.at(arrival).moved(0, 0, shift) for port, ball in cell.ins.items()}
-    outs = {port: ball.moved(0, 0, shift) for port, ball in cell.outs.items()}
+    ins = {port: ball.at_time(arrival).shifted_by(0, 0, shift) for port, ball in cell.ins.items()}
+    outs = {port: ball.shifted_by(0, 0, shift) for port, ball in cell.outs.items()}
     line = f"{cell.word} {' '.join(ins)} -> {' '.join(outs)}"
-    return Machine(name, [line], ins, outs, rectangles(set(cell.mirrors)))
+    return Machine(name, [line], ins, outs, rectangles_of_cells(set(cell.mirrors)))
 
 
 def renamed_machine(machine: Machine, name: str, names: dict[str, str], gates: list[str]) -> Machine:
@@ -88,7 +89,7 @@ UNSWITCH_MIRRORS = [
 def unswitch_machine() -> Machine:
     """Returns a switch, six mirrors that lead its outputs on, and an inverse switch."""
     ins = {"c": Ball(9, 9, 1, 1, 3), "x": Ball(9, 12, 1, -1, 3)}
-    inner = {"d": Ball(-4, -6, 1, 1, 56), "y": Ball(-3, -6, -1, 1, 56), "z": Ball(-7, 4, -1, 1, 82).at(56)}
+    inner = {"d": Ball(-4, -6, 1, 1, 56), "y": Ball(-3, -6, -1, 1, 56), "z": Ball(-7, 4, -1, 1, 82).at_time(56)}
     outs = {"e": Ball(-11, 1, -1, -1, 86), "w": Ball(-11, 8, -1, 1, 86)}
     gates = ["switch c x -> d y z", "unswitch d y z -> e w"]
     return Machine("unswitch", gates, ins, outs, mirrors_from_numbers(UNSWITCH_MIRRORS), inner=inner)
@@ -129,10 +130,10 @@ def half_adder_machine() -> Machine:
     balls."""
     gates = ["source 1 -> k", "switch a k -> a1 a2 not_a", "interact a1 b -> carry b_alone a_alone again",
              "unswitch a2 a_alone b_alone -> a3 sum"]
-    ins = {"a": Ball(6, 6, 1, 1, 0).at(2), "b": Ball(0, -23, 1, -1, 0).at(2)}
-    outs = {"sum": Ball(-21, -31, -1, -1, 98).at(96), "carry": Ball(4, -23, 1, -1, 98).at(76)}
-    garbage = {"not_a": Ball(34, 2, 1, 1, 98).at(66), "again": Ball(2, -22, 1, 1, 98).at(84),
-               "a3": Ball(-10, -31, 1, -1, 98).at(96)}
+    ins = {"a": Ball(6, 6, 1, 1, 0).at_time(2), "b": Ball(0, -23, 1, -1, 0).at_time(2)}
+    outs = {"sum": Ball(-21, -31, -1, -1, 98).at_time(96), "carry": Ball(4, -23, 1, -1, 98).at_time(76)}
+    garbage = {"not_a": Ball(34, 2, 1, 1, 98).at_time(66), "again": Ball(2, -22, 1, 1, 98).at_time(84),
+               "a3": Ball(-10, -31, 1, -1, 98).at_time(96)}
     return Machine("half_adder", gates, ins, outs, mirrors_from_numbers(HALF_ADDER_MIRRORS), [Ball(6, 15, 1, -1, 0)],
                    garbage)
 
@@ -144,7 +145,7 @@ def xor_machine() -> Machine:
                    garbage={"carry": half.outs["carry"], **half.garbage})
 
 
-def switch_machines(switch: Machine) -> list[Machine]:
+def renamed_switch_machines(switch: Machine) -> list[Machine]:
     """Returns the machines that are a switch with other names: copies, NOT and AND."""
     copying = ["source 1 -> k", "switch a k -> d y z"]
     return [
@@ -156,7 +157,7 @@ def switch_machines(switch: Machine) -> list[Machine]:
 
 def all_machines() -> list[Machine]:
     """Returns the machines of all cells."""
-    cells = base_cells()
+    cells = base_gate_cells()
     switch, fredkin = gate_machine("switch", cells["switch"][0]), gate_machine("fredkin", cells["fredkin"][0])
     either = renamed_machine(fredkin, "or", {"c": "a", "x": "1", "y": "b", "d": "*d", "u": "u", "v": "*v"},
                              ["source 1 -> k", "fredkin a k b -> d u v"])
@@ -168,5 +169,5 @@ def all_machines() -> list[Machine]:
         gate_machine("interact", cells["interact"][0]), uninteract_machine(), switch, unswitch_machine(),
         fredkin, gate_machine("fredkin_inverse", cells["fredkin"][1]),
         gate_machine("cswap", cells["cswap"][0]), gate_machine("cswap_inverse", cells["cswap"][1]),
-        *switch_machines(switch), either, xor_machine(), half_adder_machine(), full_adder_machine(),
+        *renamed_switch_machines(switch), either, xor_machine(), half_adder_machine(), full_adder_machine(),
     ]

@@ -8,7 +8,7 @@ from bbmlab_core.route.balls import Ball, Mirror
 
 from .bundles import Machine
 
-GATES = [
+GATE_LINES = [
     "source 1 -> k1", "source 1 -> k2",
     "switch a k1 -> a1 a2 not_a", "interact a1 b -> both b_alone a_alone again",
     "unswitch a2 a_alone b_alone -> a3 half",
@@ -17,7 +17,7 @@ GATES = [
     "unswitch h3 also both -> h4 carry",
 ]
 # The upper left cells of the mirrors of 4 by 2 cells, and of those of 2 by 4.
-FLAT_MIRRORS = [
+FLAT_MIRROR_CORNERS = [
     (57, 2), (122, 3), (67, 4), (75, 4), (111, 4), (34, 5), (37, 6), (63, 6), (71, 6), (80, 7), (43, 8), (92, 9),
     (136, 11), (36, 13), (110, 13), (122, 13), (52, 15), (59, 16), (67, 16), (112, 19), (120, 19), (37, 20), (117, 22),
     (8, 23), (16, 23), (82, 23), (69, 24), (56, 25), (76, 25), (21, 26), (104, 27), (46, 29), (89, 30), (21, 34),
@@ -29,7 +29,7 @@ FLAT_MIRRORS = [
     (87, 106), (24, 107), (62, 107), (37, 112), (47, 114), (61, 114), (64, 115), (29, 118), (77, 124), (90, 127),
     (11, 128), (49, 130), (105, 134), (72, 135), (117, 136), (67, 138), (93, 138), (121, 138), (88, 139), (97, 140),
 ]
-UPRIGHT_MIRRORS = [
+UPRIGHT_MIRROR_CORNERS = [
     (126, 5), (109, 6), (52, 7), (26, 13), (140, 13), (34, 15), (27, 16), (105, 18), (44, 19), (53, 22), (90, 23),
     (114, 23), (134, 23), (43, 24), (26, 25), (3, 28), (56, 29), (70, 29), (63, 30), (140, 31), (55, 32), (6, 33),
     (40, 35), (52, 35), (16, 37), (26, 37), (110, 37), (86, 39), (119, 40), (28, 41), (42, 41), (108, 41), (121, 42),
@@ -50,5 +50,6 @@ def full_adder_machine() -> Machine:
     garbage = {"not_a": Ball(66, 81, 1, -1, 416), "again": Ball(88, 88, 1, 1, 414), "a3": Ball(97, 137, -1, -1, 408),
                "not_h": Ball(22, 59, 1, -1, 406), "again2": Ball(91, 136, 1, -1, 395), "h4": Ball(57, 105, -1, -1, 434)}
     constants = [Ball(82, 62, 1, 1, 0), Ball(89, 33, -1, -1, 0)]
-    mirrors = [Mirror(*cell, 4, 2) for cell in FLAT_MIRRORS] + [Mirror(*cell, 2, 4) for cell in UPRIGHT_MIRRORS]
-    return Machine("full_adder", GATES, ins, outs, mirrors, constants, garbage)
+    mirrors = [*(Mirror(*cell, 4, 2) for cell in FLAT_MIRROR_CORNERS),
+               *(Mirror(*cell, 2, 4) for cell in UPRIGHT_MIRROR_CORNERS)]
+    return Machine("full_adder", GATE_LINES, ins, outs, mirrors, constants, garbage)

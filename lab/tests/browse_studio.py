@@ -596,9 +596,9 @@ def keep_selection(studio: Studio) -> None:
 
 def ask_twice(studio: Studio) -> None:
     """A question that another one replaces is answered with null, and the other one waits for its button."""
-    studio.script("window.answers = []; const { ask, element } = bbmlab.parts;"
-                  "element('dialog').addEventListener('close', () => { window.isClosed = true; }, { once: true });"
-                  "for (const name of ['one', 'two']) ask(name, [], [['ok', () => 7]]).then((value) => "
+    studio.script("window.answers = []; const { askInDialog, elementById } = bbmlab.parts;"
+                  "elementById('dialog').addEventListener('close', () => { window.isClosed = true; }, { once: true });"
+                  "for (const name of ['one', 'two']) askInDialog(name, [], [['ok', () => 7]]).then((value) => "
                   "window.answers.push([name, value]))")
     studio.wait(lambda: studio.script("return window.isClosed"), "the event of the first question comes")
     assert studio.script("return window.answers") == [["one", None]], studio.script("return window.answers")
@@ -853,7 +853,7 @@ def route_circuit(studio: Studio) -> None:
     and can be undone."""
     text = "circuit\ninput p\ninput q\nswitch p q -> a b c\noutput a\noutput b\nspill c\nend\nlayout 48 48 40\nend\n"
     studio.begin("routed.txt", text)
-    studio.script("bbmlab.studio.router.begin(600, 3)")
+    studio.script("bbmlab.studio.router.routeCircuit(600, 3)")
     studio.wait(lambda: "Routing since" in studio.text("routing") or "Begins" in studio.text("routing"),
                 "the search is shown")
     studio.script("bbmlab.server.request('unroute')")
@@ -928,11 +928,11 @@ def see_large(studio: Studio) -> None:
     studio.rest()
     made = studio.script("return [...bbmlab.studio.sketch.tiles.made.values()].length")
     kept = studio.script("const { sketch, desk } = bbmlab.studio, old = new Set(sketch.tiles.made.values()); "
-                         "desk.model.add([{ kind: 'mirror', name: null, box: [1, 2, 2, 2], line: -1 }]); "
+                         "desk.model.addParts([{ kind: 'mirror', name: null, box: [1, 2, 2, 2], line: -1 }]); "
                          "return [...sketch.tiles.made.values()].filter((tile) => old.has(tile)).length")
     assert kept == made, f"{kept} of {made} tiles are kept after a mirror was added: it is drawn over them"
-    removed = studio.script("const { sketch, desk } = bbmlab.studio; desk.model.remove([desk.model.parts.find(({ box "
-                            "}) => box[0] === 1 && box[1] === 2).line]); "
+    removed = studio.script("const { sketch, desk } = bbmlab.studio; desk.model.removeParts([desk.model.parts.find(({ "
+                            "box }) => box[0] === 1 && box[1] === 2).line]); "
                             "return sketch.tiles.made.size")
     assert 0 < removed < made, f"{removed} of {made} tiles are kept after a mirror at a corner was removed"
     studio.still()

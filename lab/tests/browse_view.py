@@ -147,11 +147,11 @@ const next = () => {
 requestAnimationFrame(next);"""
 # Counts the steps of runs that go to a time. The run to the end, which goes on meanwhile, never does.
 COUNT = """const run = bbmlab.automaton.WholeRun.prototype, sought = new Set();
-const { jumpToSnapshot, forward, backward } = run;
+const { jumpToSnapshot, stepForward, stepBackward } = run;
 window.stepCount = 0;
 run.jumpToSnapshot = function (time) { sought.add(this); jumpToSnapshot.call(this, time); };
-run.forward = function () { window.stepCount += Number(sought.has(this)); return forward.call(this); };
-run.backward = function () { window.stepCount += Number(sought.has(this)); return backward.call(this); };"""
+run.stepForward = function () { window.stepCount += Number(sought.has(this)); return stepForward.call(this); };
+run.stepBackward = function () { window.stepCount += Number(sought.has(this)); return stepBackward.call(this); };"""
 # From the nearest snapshot no time of 65,536 is more than 512 steps away.
 MAX_STEPS = 600
 

@@ -8,7 +8,7 @@ import time
 
 import support
 from bbmlab_core.explain.fixing import Fixer
-from bbmlab_core.explain.trials import Budget, TrialRunner, is_yes
+from bbmlab_core.explain.trials import TrialBudget, TrialRunner, is_yes
 from mutations import FAMILIES, mutants
 
 MAX_BYTES = 12_000
@@ -29,7 +29,7 @@ def rounds_to_yes(text: str, program: str) -> tuple[int | None, list[str]]:
     """Returns after how many rounds a text gets a yes, or None, and the fixes of these rounds that led to a refusal."""
     refused = []
     for number in range(1, ROUNDS + 1):
-        trial = TrialRunner(program, Budget(600, 30))
+        trial = TrialRunner(program, TrialBudget(600, 30))
         report = trial.try_text(text)
         assert report
         fix = Fixer(text, report, trial).find_fix()

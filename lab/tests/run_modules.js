@@ -2,16 +2,16 @@
 // use modules of the page that need no browser.
 import fs from "node:fs";
 import * as address from "../bbmlab_core/view/address.js";
-import { CellNumbering, Cells, circuitValues, mirrorsOf, ModuleRun, startKeys, lastMoves,
+import { CellNumbering, CellSet, circuitValues, mirrorAndRestlessCells, ModuleRun, startKeys, lastMoves,
   WholeRun } from "../bbmlab_core/view/automaton.js";
-import { placeNames } from "../bbmlab_core/view/labels.js";
+import { chooseNamePlaces } from "../bbmlab_core/view/labels.js";
 import * as painting from "../bbmlab_core/view/painting.js";
 import { Player } from "../bbmlab_core/view/player.js";
 import { paintSquares } from "../bbmlab_core/view/squares.js";
 import { SvgPen } from "../bbmlab_core/view/svg_pen.js";
-import { Buckets, Tiles, visitModules } from "../bbmlab_core/view/tiles.js";
+import { SquareIndex, Tiles, visitModules } from "../bbmlab_core/view/tiles.js";
 import * as waveform from "../bbmlab_core/view/waveform.js";
-import { Wires } from "../bbmlab_core/view/wires.js";
+import { WireWays } from "../bbmlab_core/view/wires.js";
 
 /** Returns a run at a time. */
 function runAt(data, on, time) {
@@ -61,25 +61,26 @@ function scene(data, on, time, { scale, left, top, pointed }) {
   const measure = (words, font) => 0.6 * Number(font.match(/([\d.]+)px/)[1]) * words.length;
   const pen = new SvgPen(900, 600, measure), inks = new Proxy({}, { get: (_, name) => `var(--${String(name)})` });
   const run = runAt(data, on, time);
-  const mirrors = new Cells(startKeys({ mirrors: data.layout.mirrors, balls: [], ins: [] }, () => false, run.numbering),
-    run.numbering);
+  const mirrors = new CellSet(startKeys({ mirrors: data.layout.mirrors, balls: [], ins: [] }, () => false,
+    run.numbering), run.numbering);
   const good = new Map(data.layout.outs.map((port) => [String(port.cell), true]));
   painting.paintScene({ pen, scale, left, top, wide: 900, high: 600, inks },
     { layout: data.layout, modules: [], live: run.live, mirrors,
     odd: time % 2, trail: lastMoves(run, 8), chosen: null, lines: [], fault: null, mark: null, good, pointed });
-  return pen.text("#fff", "a <title> & \"more\"");
+  return pen.svgDocument("#fff", "a <title> & \"more\"");
 }
 
-const results = (data, on) => ended(data, on).results().map(({ name, isGood }) => [name, isGood]);
-const read = (hash, limits) => address.read(hash, limits);
-const hashText = (shown) => address.hashText(shown);
-const places = (names, signs, ports) => placeNames(names, signs, ports).map(({ box, away }) => [box.x, box.y, away]);
+const results = (data, on) => ended(data, on).outputResults().map(({ name, isGood }) => [name, isGood]);
+const read = (hash, limits) => address.readAddress(hash, limits);
+const addressFragment = (shown) => address.addressFragment(shown);
+const places = (names, signs, ports) => chooseNamePlaces(names, signs, ports).map(({ box, away }) => [box.x, box.y,
+  away]);
 
 /**
  * Returns for each time, sought in this order, what differs from the mirrors, as the run knows it and as its cells say.
  */
 function cellsUnlikeMirrors(data, on, times) {
-  const run = new WholeRun(data.layout, new Set(on)), { cells } = mirrorsOf(data.layout), found = [];
+  const run = new WholeRun(data.layout, new Set(on)), { cells } = mirrorAndRestlessCells(data.layout), found = [];
   for (const time of times) {
     run.seek(time);
     const wanted = [...cells.bytes.keys()].filter((key) => cells.bytes[key] !== run.live.bytes[key]);
@@ -90,17 +91,17 @@ function cellsUnlikeMirrors(data, on, times) {
 
 /** Returns the numbers of the rectangles and pieces that are filed under a range, in order. */
 function filed(boxes, pieces, range) {
-  const found = new Buckets(), numbers = [];
+  const found = new SquareIndex(), numbers = [];
   for (const box of boxes) found.addBox(...box);
   for (const piece of pieces) found.addPiece(...piece);
-  found.visit(range, (number) => numbers.push(number));
+  found.visitRange(range, (number) => numbers.push(number));
   return numbers.sort((a, b) => a - b);
 }
 
 /** Returns what is said of the wire at a place, and the time there, or null. */
 function wireAt(ways, circuit, [x, y], most) {
-  const wires = new Wires(ways, circuit), found = wires.wireAt(x, y, most);
-  return found && [wires.wordsOf(found.wire), found.times, wires.boxOf(found.wire), wires.groupOf(found.wire)];
+  const wires = new WireWays(ways, circuit), found = wires.wireAt(x, y, most);
+  return found && [wires.wireWords(found.wire), found.times, wires.boxOfWire(found.wire), wires.groupOf(found.wire)];
 }
 
 /**
@@ -116,8 +117,8 @@ function tiles(size, place, milliseconds) {
   });
   const shown = { pen: { drawImage: () => { copies += 1; } }, ...place };
   let copies = 0, frames = 1;
-  const isFirst = made.paint(shown), first = drawn.length, firstCopies = copies;
-  while (!made.paint(shown)) frames += 1;
+  const isFirst = made.paintShownTiles(shown), first = drawn.length, firstCopies = copies;
+  while (!made.paintShownTiles(shown)) frames += 1;
   return { level: made.levelOf(place.scale), wanted: made.shownTiles(place, made.levelOf(place.scale)).length, isFirst,
     first, firstCopies, drawn: drawn.length, frames };
 }
@@ -140,7 +141,7 @@ function linesAt(data, times) {
   player.restart(0);
   return times.map((time) => {
     player.run.seek(time);
-    return [player.linesNow(null).map(({ kind, number, x, y, signal }) => [kind, number, x, y, signal]),
+    return [player.certificateLinesNow(null).map(({ kind, number, x, y, signal }) => [kind, number, x, y, signal]),
       player.borders !== null];
   });
 }
@@ -155,6 +156,6 @@ const modulesAt = (modules, cells) => cells.map(([x, y]) => {
 });
 
 const functions = { cellsUnlikeMirrors, filed, linesAt, modulesAt, squares, states,
-  wireAt, tiles, trail, waves, scene, results, read, hashText, places };
+  wireAt, tiles, trail, waves, scene, results, read, addressFragment, places };
 const jobs = JSON.parse(fs.readFileSync(0, "utf8"));
 console.log(JSON.stringify(jobs.map(([name, ...words]) => functions[name](...words))));

@@ -3,13 +3,13 @@
 import fs from "node:fs";
 import * as circuitText from "../bbmlab_core/studio/circuit_text.js";
 import * as geometry from "../bbmlab_core/studio/geometry.js";
-import { Model, ModelRefusal } from "../bbmlab_core/studio/model.js";
+import { LayoutModel, ModelRefusal } from "../bbmlab_core/studio/model.js";
 import * as surveys from "../bbmlab_core/studio/survey.js";
 
-const { Survey, TruthTableRun } = surveys;
+const { ManyChoicesRun, TruthTableRun } = surveys;
 
 /** Returns whether text, model, text gives the same text, for each text. */
-const law = (texts) => texts.map((text) => new Model(text).text === text);
+const law = (texts) => texts.map((text) => new LayoutModel(text).text === text);
 
 /** Returns numbers from 0 to 1 by a fixed sequence. */
 function draws(seed) {
@@ -28,24 +28,25 @@ function commandsOf(model, draw, cells) {
   const names = () => ["a", "b", "c_2", "zz"][draw(4)];
   return [
     () => {
-      const box = geometry.snapMirror([...cell(), 1 + draw(6), 1 + draw(6)], model.header.width, model.header.height);
-      if (box) model.add([part("mirror", box)]);
+      const box = geometry.nearestStableBox([...cell(), 1 + draw(6), 1 + draw(6)], model.header.width,
+        model.header.height);
+      if (box) model.addParts([part("mirror", box)]);
     },
-    () => model.add([part("mirror", [...cell(), 1 + draw(4), 1 + draw(4)])]),
-    () => model.addBallsOrPorts(geometry.pairCells(cell(), 0).map((at) => part("ball", [...at, 1, 1]))),
+    () => model.addParts([part("mirror", [...cell(), 1 + draw(4), 1 + draw(4)])]),
+    () => model.addBallsOrPorts(geometry.twoBallCells(cell(), 0).map((at) => part("ball", [...at, 1, 1]))),
     () => {
       const name = names();
-      model.addBallsOrPorts(geometry.pairCells(cell(), 0).map((at) => part("in", [...at, 1, 1], name)));
+      model.addBallsOrPorts(geometry.twoBallCells(cell(), 0).map((at) => part("in", [...at, 1, 1], name)));
     },
     () => {
       const name = names();
       model.addBallsOrPorts([part("out", [...cell(), 1, 1], name)]);
     },
     () => model.addBallsOrPorts([part("waste", [...cell(), 1, 1])]),
-    () => model.remove(lines()), () => model.move(lines(), draw(9) - 4, draw(9) - 4),
+    () => model.removeParts(lines()), () => model.move(lines(), draw(9) - 4, draw(9) - 4),
       () => model.rotateOrFlip(lines(), ["rotate", "flip-x", "flip-y"][draw(3)]),
-    () => model.rename(lines(), names()),
-      () => model.add(geometry.shiftedParts(model.partsOfLines(lines()).slice(0, 6), 2 * draw(9), 2 * draw(9)),
+    () => model.renamePorts(lines(), names()),
+      () => model.addParts(geometry.shiftedParts(model.partsOfLines(lines()).slice(0, 6), 2 * draw(9), 2 * draw(9)),
         "paste"),
     () => model.setSizeAndSteps(model.header.width + 2 * draw(3) - 2, model.header.height + 2 * draw(3) - 2,
       Math.max(0, model.header.steps + draw(7) - 3), draw(2) === 1),
@@ -62,7 +63,7 @@ function commandsOf(model, draw, cells) {
  * and the last text.
  */
 function random(text, cells, seed, count, isWild) {
-  const model = new Model(text), draw = draws(seed);
+  const model = new LayoutModel(text), draw = draws(seed);
   const commands = commandsOf(model, draw, cells).slice(0, isWild ? undefined : 13), texts = [];
   let done = 0;
   for (let tries = 0; done < count && tries < 40 * count; tries += 1) {
@@ -81,7 +82,7 @@ function random(text, cells, seed, count, isWild) {
 
 /** Returns the text after commands, each [name, arguments..], or the reason why one cannot be done. */
 function commands(text, list) {
-  const model = new Model(text);
+  const model = new LayoutModel(text);
   try { for (const [name, ...words] of list) model[name](...words); } catch (error) {
     if (!(error instanceof ModelRefusal)) throw error;
     return error.message;
@@ -91,18 +92,18 @@ function commands(text, list) {
 
 /** Returns where lines are after a command, [name, arguments..], and after it is undone. */
 function moved(text, [name, ...words], lines) {
-  const model = new Model(text);
+  const model = new LayoutModel(text);
   model[name](...words);
-  const after = model.takeMovedLines(lines);
+  const after = model.takeNewLineNumbers(lines);
   model.undo();
-  return [after, model.takeMovedLines(after), model.takeMovedLines(after)];
+  return [after, model.takeNewLineNumbers(after), model.takeNewLineNumbers(after)];
 }
 
 /** Returns the cells that are live at the end under each choice of the inputs, and the kinds of marks. */
 function ends(text) {
-  const { layout, circuit } = new Model(text), choices = surveys.allChoices(circuit.inputs);
-  const run = new Survey(layout, circuit, choices);
-  run.advance(1e6);
+  const { layout, circuit } = new LayoutModel(text), choices = surveys.allChoices(circuit.inputs);
+  const run = new ManyChoicesRun(layout, circuit, choices);
+  run.runForMilliseconds(1e6);
   const keys = [...Array(layout.width * layout.height).keys()].map(
     (index) => run.numbering.keyOf(index % layout.width, Math.floor(index / layout.width)));
   const states = choices.map((on, lane) => ({ on: [...on],
@@ -112,34 +113,34 @@ function ends(text) {
 
 /** Returns the size, whether the circuit is whole, and the kinds and places of the parts. */
 function parts(text) {
-  const model = new Model(text), { width, height, steps } = model.header;
+  const model = new LayoutModel(text), { width, height, steps } = model.header;
   return { size: [width, height, steps], isWhole: circuitText.readCircuit(model.headText).isWhole,
     parts: model.parts.map(({ kind, box }) => [kind, box[0], box[1]]).sort() };
 }
 
 /** Returns the truth table. */
 function truth(text) {
-  const { layout, circuit } = new Model(text), table = new TruthTableRun(layout, circuit);
-  table.advance(1e6);
+  const { layout, circuit } = new LayoutModel(text), table = new TruthTableRun(layout, circuit);
+  table.runForMilliseconds(1e6);
   return table.rows();
 }
 
 /** Returns how long the ways of a text take, in milliseconds: the median of some runs. */
 function timed(text, count) {
-  const { layout, circuit } = new Model(text), inputs = circuit.inputs, times = [];
+  const { layout, circuit } = new LayoutModel(text), inputs = circuit.inputs, times = [];
   for (let run = 0; run < count; run += 1) {
     const start = performance.now();
-    const survey = new Survey(layout, circuit, inputs.length <= 5 ? surveys.allChoices(inputs)
+    const survey = new ManyChoicesRun(layout, circuit, inputs.length <= 5 ? surveys.allChoices(inputs)
       : surveys.sampledChoices(inputs));
-    survey.advance(1e6);
+    survey.runForMilliseconds(1e6);
     times.push(performance.now() - start);
   }
   return { median: times.sort((a, b) => a - b)[count >> 1],
-    ways: new Survey(layout, circuit, [new Set()]).ways.length };
+    ways: new ManyChoicesRun(layout, circuit, [new Set()]).ways.length };
 }
 
-const fallen = (mirrors) => geometry.fallingMirrors(mirrors).map(({ box }) => box);
-const snapped = (boxes, width, height) => boxes.map((box) => geometry.snapMirror(box, width, height));
+const unstable = (mirrors) => geometry.unstableMirrors(mirrors).map(({ box }) => box);
+const snapped = (boxes, width, height) => boxes.map((box) => geometry.nearestStableBox(box, width, height));
 const circuit = (text) => {
   const { isWhole, inputs, outputs, spills, gates } = circuitText.readCircuit(text);
   return { isWhole, inputs, outputs, spills, gates };
@@ -147,12 +148,12 @@ const circuit = (text) => {
 
 /** Returns the words of the lines that contain one, for each text. */
 const words = (texts) =>
-  texts.map((text) => circuitText.withoutByteOrderMark(text).split("\n").map(circuitText.wordsOf)
+  texts.map((text) => circuitText.withoutByteOrderMark(text).split("\n").map(circuitText.lineWords)
     .filter((found) => found.length));
 
 /** Returns the text that is drawn, for each text. */
-const drawn = (texts) => texts.map((text) => new Model(text).drawnText);
+const drawn = (texts) => texts.map((text) => new LayoutModel(text).drawnText);
 
-const functions = { words, drawn, law, random, commands, moved, ends, parts, truth, timed, fallen, snapped, circuit };
+const functions = { words, drawn, law, random, commands, moved, ends, parts, truth, timed, unstable, snapped, circuit };
 const jobs = JSON.parse(fs.readFileSync(0, "utf8"));
 console.log(JSON.stringify(jobs.map(([name, ...words]) => functions[name](...words))));

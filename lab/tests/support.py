@@ -25,13 +25,13 @@ DEBIAN_PYTHON = "/usr/bin/python3"
 sys.path[:0] = [str(path) for path in (LAB, TOP / "conformance") if str(path) not in sys.path]
 sys.dont_write_bytecode = True
 import cases  # noqa: E402
-from bbmlab_core.host.program import ask  # noqa: E402
+from bbmlab_core.host.program import ask_program  # noqa: E402
 from bbmlab_core.texts.circuits import Circuit  # noqa: E402
-from bbmlab_core.texts.documents import Document, decode, read_document  # noqa: E402
+from bbmlab_core.texts.documents import Document, decode_latin1, read_document  # noqa: E402
 from bbmlab_core.texts.json_form import document_json_text  # noqa: E402
 
 # Fewer tries than users get, which save time: each try is one that a search can end with.
-FEW_TRIES = mock.patch("bbmlab_core.circuits.netlists.search.MAX_TRIES", 8)
+FEW_TRIES = mock.patch("bbmlab_core.circuits.netlists.search.MAX_MAPPING_TRIES", 8)
 
 
 class Case(unittest.TestCase):
@@ -81,7 +81,7 @@ def worked_runs() -> list[cases.Case]:
 
 def document_of(case: cases.Case) -> Document:
     """Returns the text of a case as its command reads it."""
-    return read_document(decode(case.input), case.words[0])
+    return read_document(decode_latin1(case.input), case.words[0])
 
 
 def example(name: str) -> str:
@@ -153,7 +153,7 @@ def program() -> str:
 
 def checked(text: str) -> str:
     """Returns what the program's `check` prints of a text."""
-    return ask(program(), "check", text.encode("latin-1")).output
+    return ask_program(program(), "check", text.encode("latin-1")).output
 
 
 def program_of_limits_2() -> str:

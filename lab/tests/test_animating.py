@@ -30,7 +30,7 @@ class Animation(unittest.TestCase):
     def test_attributes_move_together(self) -> None:
         """Each ball has as many places as there are steps in all runs, and is out of sight in the runs of others."""
         layout = read_layout_file(str(support.LAB / "cells" / "fredkin.txt"))[1]
-        picture = ET.fromstring(animating.animation(layout, [["c"], ["x", "y"]], "two runs"))
+        picture = ET.fromstring(animating.animation_svg(layout, [["c"], ["x", "y"]], "two runs"))
         space = "{http://www.w3.org/2000/svg}"
         values = [it.attrib["values"].split(";") for it in picture.iter(f"{space}animate")
                   if it.attrib["attributeName"] in "xy"]
@@ -45,5 +45,5 @@ class Animation(unittest.TestCase):
     def test_captions(self) -> None:
         """Each run has a caption with the values of all inputs."""
         layout = read_layout_file(str(support.LAB / "cells" / "fredkin.txt"))[1]
-        found = re.findall(r">(c = \d, x = \d, y = \d)\n", animating.animation(layout, [["c"], ["x", "y"]], ""))
+        found = re.findall(r">(c = \d, x = \d, y = \d)\n", animating.animation_svg(layout, [["c"], ["x", "y"]], ""))
         self.assertEqual(found, ["c = 1, x = 0, y = 0", "c = 0, x = 1, y = 1"])

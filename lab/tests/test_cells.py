@@ -5,7 +5,7 @@ import subprocess
 import sys
 
 import support
-from bbmlab_core.host.program import ask
+from bbmlab_core.host.program import ask_program
 from bbmlab_core.physics.simulation import layout_run
 from bbmlab_core.texts.circuits import values_and_undefined_gate
 from bbmlab_core.texts.layouts import Cell, Layout
@@ -26,10 +26,10 @@ FUNCTIONS = {
 def states_of(layout: Layout, on: set[str]) -> list[set[Cell]]:
     """Returns the live cells at each time."""
     run = layout_run(layout, on)
-    states = [run.field.state()]
+    states = [run.field.live_cells_under()]
     while run.time < layout.steps:
         assert run.step(), "a ball left"
-        states.append(run.field.state())
+        states.append(run.field.live_cells_under())
     return states
 
 
@@ -44,7 +44,7 @@ class Cells(support.Case):
         for name in cell_names():
             with self.subTest(name):
                 self.assertIn("\nverdict yes\n",
-                              ask(program, "check", (CELLS_FOLDER / f"{name}.txt").read_bytes()).output)
+                              ask_program(program, "check", (CELLS_FOLDER / f"{name}.txt").read_bytes()).output)
 
     def test_another_gate_gets_a_no(self) -> None:
         """A Fredkin cell is no cell of `cswap`, and a switch with a mirror less is none."""
@@ -52,7 +52,7 @@ class Cells(support.Case):
         fredkin, switch = ((CELLS_FOLDER / f"{name}.txt").read_text() for name in ("fredkin", "switch"))
         mirror = next(line for line in switch.splitlines() if line.startswith("mirror"))
         for text in (fredkin.replace("\nfredkin ", "\ncswap "), switch.replace(mirror + "\n", "")):
-            self.assertIn("\nverdict no\n", ask(program, "check", text.encode()).output)
+            self.assertIn("\nverdict no\n", ask_program(program, "check", text.encode()).output)
 
     def test_they_are_what_the_script_makes(self) -> None:
         """`make_cells --check` finds no difference."""

@@ -119,7 +119,7 @@ class Forms(support.InRoom):
         """Figures of small circuits."""
         circuit = circuit_of("circuit\ninput a\nsource 1 -> k\nswitch a k -> b c d\ninteract b c -> e f g h\n"
                              + "".join(f"output {name}\n" for name in "efgh") + "spill d\nend\n")
-        self.assertEqual((truth.depth(circuit), truth.peak_wire_count(circuit)), (2, 5))
+        self.assertEqual((truth.circuit_depth(circuit), truth.peak_wire_count(circuit)), (2, 5))
 
 
 class Examples(unittest.TestCase):

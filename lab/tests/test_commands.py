@@ -8,7 +8,7 @@ import xml.etree.ElementTree as ET
 from pathlib import Path
 
 import support
-from bbmlab_core.host.program import ask
+from bbmlab_core.host.program import ask_program
 
 
 class Documents(support.InRoom):
@@ -29,7 +29,7 @@ class Documents(support.InRoom):
         """
         file, program = support.example("wrong_edge"), support.program()
         report = self.room / "report"
-        report.write_text(ask(program, "check", Path(file).read_bytes()).output)
+        report.write_text(ask_program(program, "check", Path(file).read_bytes()).output)
         for words, without in [(("json", "--report", str(report), file), {"assign", "limits"}),
                                (("explain", "--json", file), set()),
                                (("check", "--format", "json", file), {"stopped", "not_checked", "left_out"}),

@@ -17,7 +17,7 @@ from bbmlab_core.physics import standard_cells
 from bbmlab_core.physics.simulation import layout_run
 from bbmlab_core.studio import connecting, machines
 from bbmlab_core.studio.connecting import ConnectedText, connect_ports
-from bbmlab_core.studio.verdicts import Judge
+from bbmlab_core.studio.verdicts import VerdictFinder
 from bbmlab_core.texts.documents import Document, read_document
 
 RUN = "import sys; from bbmlab_core.studio.connecting import main; sys.exit(main())"
@@ -53,7 +53,7 @@ class Connecting(unittest.TestCase):
 
     def assert_is_buffer(self, text: str) -> Document:
         """Asserts that the program says yes to a text, and that two NOT gates in a row copy `a` to `q`."""
-        verdict = Judge(text, open_program(support.program()), 60).verdict()
+        verdict = VerdictFinder(text, open_program(support.program()), 60).verdict()
         self.assertEqual(verdict.verdict, "yes", verdict.words)
         document = read_document(text, "design")
         self.assertEqual((document.circuit.inputs, document.circuit.outputs), (("a",), ("q",)))
@@ -61,7 +61,7 @@ class Connecting(unittest.TestCase):
             run = layout_run(document.layout, on)
             self.assertTrue(run.run_to(document.layout.steps))
             outs = {part.cell for part in document.layout.of_kind("out")}
-            self.assertEqual(outs <= run.field.state(), bool(on))
+            self.assertEqual(outs <= run.field.live_cells_under(), bool(on))
         return document
 
     def test_two_gates_in_a_row(self) -> None:
@@ -91,7 +91,7 @@ class Connecting(unittest.TestCase):
         # `not` takes its input falling, and gives its output rising: it is reflected first.
         self.assertNotEqual((out.dx, out.dy), (goal.dx, goal.dy))
         flipped = connecting.PortConnection(read_document(text, "design"), "z", "b")
-        flipped.goal = out.flown(40).moved(0, 0, -out.time - 40)
+        flipped.goal = out.after_flight(40).shifted_by(0, 0, -out.time - 40)
         self.assertEqual(flipped.possible_delays()[0], out.time + 40)
 
     def test_gates_come_in_order(self) -> None:

@@ -6,8 +6,8 @@ import re
 import unittest
 
 import support
-from bbmlab_core.explain.diagnosis import Diagnosis, Tristate
-from bbmlab_core.explain.explaining import as_gcc, explain_answer
+from bbmlab_core.explain.diagnosis import DiagnosticRuns, Tristate
+from bbmlab_core.explain.explaining import explain_answer, gcc_error_lines
 from bbmlab_core.explain.trials import TrialRunner
 from bbmlab_core.texts.skimming import certificate_digest
 from bbmlab_core.texts.circuits import values_and_undefined_gate
@@ -49,7 +49,7 @@ class Explained(unittest.TestCase):
         """Each line of each worked no has sentences; cells and module numbers are those of the line."""
         count = 0
         for case, _ in small_noes():
-            told = explain_answer(support.decode(case.input), "check", case.output.decode(), case.name)
+            told = explain_answer(support.decode_latin1(case.input), "check", case.output.decode(), case.name)
             report = parse_report(case.output.decode())
             self.assertEqual([entry.report_line for entry in told.entries],
                              [finding.text for finding in report.findings])
@@ -67,13 +67,13 @@ class Explained(unittest.TestCase):
         it."""
         tried = 0
         for case, document in small_noes():
-            diagnosis = Diagnosis(document)
+            diagnosis = DiagnosticRuns(document)
             for finding in parse_report(case.output.decode()).findings:
                 if finding.word != "local":
                     continue
-                module = document.certificate.modules[finding.number("module")]
-                wanted = module.cut_values(finding.number("assignment"))
-                occurrence = diagnosis.occurrence(module, finding.number("assignment"))
+                module = document.certificate.modules[finding.number_value("module")]
+                wanted = module.cut_values(finding.number_value("assignment"))
+                occurrence = diagnosis.assignment_occurrence(module, finding.number_value("assignment"))
                 all_inputs = itertools.product((0, 1), repeat=len(document.circuit.inputs))
                 found = any(gives(document, dict(zip(document.circuit.inputs, bits)), wanted) for bits in all_inputs)
                 tried += 1
@@ -139,7 +139,7 @@ class Explained(unittest.TestCase):
     def test_forms_for_tools(self) -> None:
         """`--gcc` has a line for each reason, and JSON is one document."""
         told = explained_example("wrong_edge")
-        lines = as_gcc(told)
+        lines = gcc_error_lines(told)
         self.assertEqual(len(lines), 2)
         for line in lines:
             self.assertRegex(line, r"\Awrong_edge:\d+: error: ")

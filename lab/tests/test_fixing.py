@@ -8,20 +8,20 @@ from collections import Counter
 from types import SimpleNamespace
 
 import support
-from bbmlab_core.explain.diagnosis import Diagnosis, Tristate
-from bbmlab_core.explain.edits import EditError, addition, deletion, edits_between, replacement, text_after
+from bbmlab_core.explain.diagnosis import DiagnosticRuns, Tristate
+from bbmlab_core.explain.edits import EditError, addition, deletion, edits_between, replacement, text_after_edits
 from bbmlab_core.explain.expected_lines import BorderCheck
 from bbmlab_core.explain.explaining import ExplainedAnswer, explain_answer
 from bbmlab_core.explain.fixing import Fixer
 from bbmlab_core.explain.refusal_edits import refusal_edits
-from bbmlab_core.explain.trials import Budget, TrialRunner, is_yes
-from bbmlab_core.host.program import ask
+from bbmlab_core.explain.trials import TrialBudget, TrialRunner, is_yes
+from bbmlab_core.host.program import ask_program
 from bbmlab_core.physics.mirrors import is_stable
-from bbmlab_core.physics.own_report import own_report
+from bbmlab_core.physics.own_report import lab_report
 from bbmlab_core.texts.skimming import certificate_digest
 from bbmlab_core.physics.simulation import LiveCells, key_of
 from bbmlab_core.texts.certificates import Border, Module
-from bbmlab_core.texts.layouts import Box, Layout, Part
+from bbmlab_core.texts.layouts import Box, Layout, LayoutPart
 from bbmlab_core.texts.reports import ReportError, parse_report
 from measure_fixes import right_texts, rounds_to_yes
 from mutations import FAMILIES, mutants
@@ -30,7 +30,7 @@ from support import text_of
 
 def explained(text: str, command: str = "check") -> ExplainedAnswer:
     """Returns the program's answer to a text in words, with fixes that the program tried."""
-    output = ask(support.program(), command, text.encode("latin-1")).output
+    output = ask_program(support.program(), command, text.encode("latin-1")).output
     return explain_answer(text, command, output, "text", TrialRunner(support.program()))
 
 
@@ -46,24 +46,25 @@ class Edits(unittest.TestCase):
         """Edits do not shift each other's lines, and two lines that are added at one place keep their order."""
         text = "a\nb\nc\nd\n"
         edits = [deletion(1), addition(2, "x"), addition(2, "y"), replacement(4, "z"), addition(0, "first")]
-        self.assertEqual(text_after(text, edits), "first\nb\nx\ny\nc\nz\n")
+        self.assertEqual(text_after_edits(text, edits), "first\nb\nx\ny\nc\nz\n")
         for wrong in ([deletion(9)], [deletion(0)], [deletion(2), replacement(2, "q")]):
             with self.assertRaises(EditError):
-                text_after(text, wrong)
+                text_after_edits(text, wrong)
 
     def test_edits_between_lead_from_one_to_the_other(self) -> None:
         """What is found by comparing two texts makes one of the other."""
         for one, two in (("a\nb\nc\n", "a\nc\nd\n"), ("a\n", "a\n"), ("", "x\ny\n"), ("p\nq\nr\n", "r\nq\np\n"),
                          ("a\na\na\n", "a\n")):
             with self.subTest(one=one, two=two):
-                self.assertEqual(text_after(one, edits_between(one, two)), two)
+                self.assertEqual(text_after_edits(one, edits_between(one, two)), two)
 
     def test_module_for_a_gap(self) -> None:
         """A module that was left out is added again, if no wire comes into its box."""
         head = "circuit\ninput p\noutput p\nend\nlayout 16 8 3\nin p 2 2\nout p 5 5\nend\n"
         whole = f"{head}certificate 2\nmodule 0 0 8 8\ncut p\nmodule 8 0 8 8\nend\n"
         text = whole.replace("module 8 0 8 8\n", "")
-        self.assertEqual([text_after(text, edits) for edits in refusal_edits(support.read_document(text))], [whole])
+        self.assertEqual([text_after_edits(text, edits) for edits in refusal_edits(support.read_document(text))],
+                         [whole])
         self.assertTrue(says_yes(whole))
 
     def test_one_edit(self) -> None:
@@ -119,7 +120,7 @@ class Edits(unittest.TestCase):
             near = [line.split(" ") for line in lines if line.startswith("edge ") and line != lines[number]]
             has_near = any(words[4] == name and max(abs(int(words[2]) - int(x)), abs(int(words[3]) - int(y))) <= 1
                            for words in near)
-            found = BorderCheck(Diagnosis(document)).all_cell_edits()
+            found = BorderCheck(DiagnosticRuns(document)).all_cell_edits()
             group, = (group for group in found if group.cell == (int(x), int(y)))
             tried[[edit.text for edit in group.edits] == [lines[number]]] += has_near
         self.assertGreater(tried[True], 5)
@@ -131,7 +132,7 @@ class Edits(unittest.TestCase):
             for y in (4, 5):
                 for width in range(1, 6):
                     for height in range(1, 6):
-                        part = Part("mirror", None, x, y, width, height)
+                        part = LayoutPart("mirror", None, x, y, width, height)
                         start = {key_of(cell): 1 for cell in part.cells()}
                         field = LiveCells(start)
                         kept = []
@@ -159,7 +160,7 @@ class Mistakes(unittest.TestCase):
         self.assertIsNotNone(told.fix, told.tried)
         self.assertEqual((told.fix.verdict, told.fix.judge), ("yes", "the program"))
         if not told.fix.certificate_again:
-            self.assertTrue(says_yes(text_after(broken, told.fix.edits)))
+            self.assertTrue(says_yes(text_after_edits(broken, told.fix.edits)))
         return told
 
     def test_the_text_comes_back(self) -> None:
@@ -178,7 +179,7 @@ class Mistakes(unittest.TestCase):
                 self.assertIn(old, text)
                 broken = text.replace(old, new)
                 told = self.fixed(text, broken)
-                self.assertEqual(text_after(broken, told.fix.edits), text)
+                self.assertEqual(text_after_edits(broken, told.fix.edits), text)
 
     def test_kinds_of_edits(self) -> None:
         """Where several texts are near and right, the fix is an edit of the line that is wrong."""
@@ -252,7 +253,7 @@ class Reports(support.InRoom):
             if case.words[0] == "check" and case.output and len(case.input) < 6000 and not case.output.startswith(
                 b"refused"):
                 document = support.document_of(case)
-                report, own = parse_report(case.output.decode()), own_report(document)
+                report, own = parse_report(case.output.decode()), lab_report(document)
                 count += 1
                 self.assertEqual((own.verdict, [finding.text for finding in own.findings]),
                                  (report.verdict, [finding.text for finding in report.findings]), case.name)
@@ -279,7 +280,7 @@ class Reports(support.InRoom):
             text = self.many_inputs(is_right)
             document = support.read_document(text, "check")
             self.assertIsNone(document.refusal)
-            outcome = Diagnosis(document).whole_outcome
+            outcome = DiagnosticRuns(document).whole_run_outcome
             self.assertIs(outcome.correctness, Tristate.UNKNOWN if is_right else Tristate.NO)
         told = explained(self.many_inputs(False))
         self.assertIn("The layout itself does not do what the circuit asks", " ".join(told.headline))
@@ -366,14 +367,14 @@ class Command(support.InRoom):
         for name in ("wrong_edge", "wrong_border", "wrong_times", "wrong_stop", "extra_cut", "two_names",
                      "outside_domain", "not_kept"):
             text = text_of(name)
-            trial = TrialRunner(program, Budget(200, 20))
+            trial = TrialRunner(program, TrialBudget(200, 20))
             report = trial.try_text(text)
-            fixer, diagnosis = Fixer(text, report, trial), Diagnosis(support.read_document(text, "check"))
+            fixer, diagnosis = Fixer(text, report, trial), DiagnosticRuns(support.read_document(text, "check"))
             for finding in report.faults:
                 fix = fixer.find_fix_of_line(diagnosis, finding)
                 if fix:
                     tried += 1
-                    after = support.checked(text_after(text, fix.edits))
+                    after = support.checked(text_after_edits(text, fix.edits))
                     self.assertNotIn("refused", after)
                     self.assertNotIn(finding.text, after.split("\n"))
         self.assertGreater(tried, 6)

@@ -5,9 +5,9 @@ import unittest
 from typing import Iterable
 
 import support  # noqa: F401
-from bbmlab_core.joining.flight_claims import DIRECTIONS, FlightClaims, pop_flight_ranges, ranges_without
+from bbmlab_core.joining.flight_claims import DIRECTION_BY_STEP, FlightClaims, pop_flight_ranges, ranges_without_claims
 from bbmlab_core.joining.lone_ways import PackedBalls
-from bbmlab_core.joining.parts import BlockCounts, part_footprint
+from bbmlab_core.joining.parts import BlockClaimCounts, part_footprint
 from bbmlab_core.route.balls import Ball
 from bbmlab_core.route.world import ROW_STRIDE, STEP_STRIDE
 from bbmlab_core.texts.layouts import Layout
@@ -18,7 +18,7 @@ SIDE, STEPS = 12, 12
 
 def some_flight(chance: random.Random) -> range:
     """Returns a flight in any direction. At a time, all blocks are in even columns and rows, or all in odd ones."""
-    time, step, count = chance.randrange(STEPS), chance.choice([*DIRECTIONS]), chance.choice((1, 1, 2, 5, 20))
+    time, step, count = chance.randrange(STEPS), chance.choice([*DIRECTION_BY_STEP]), chance.choice((1, 1, 2, 5, 20))
     x, y = (64 + 2 * chance.randrange(SIDE // 2) + time % 2 for _ in range(2))
     first = time * STEP_STRIDE + y * ROW_STRIDE + x
     return range(first, first + count * step, step)
@@ -60,7 +60,7 @@ class FlightClaimsTest(unittest.TestCase):
             self.assertEqual(sorted(number for flight in flights for number in flight), sorted(numbers))
             self.assertLess(len(flights), 3 * len(given))
             left_out = set(chance.sample(sorted(numbers), len(numbers) // 5))
-            left = [own for flight in flights for own in ranges_without(flight, left_out)]
+            left = [own for flight in flights for own in ranges_without_claims(flight, left_out)]
             self.assertEqual(sorted(number for flight in left for number in flight), sorted(numbers - left_out))
 
     def test_part_item(self) -> None:
@@ -72,9 +72,9 @@ class FlightClaimsTest(unittest.TestCase):
             around = {corner + offset for corner in corners for offset in (0, 1, ROW_STRIDE, ROW_STRIDE + 1)}
             mirrors = frozenset([*chance.sample(sorted(around), 9), ROW_STRIDE * ROW_STRIDE - 1])
             item = part_footprint(mirrors, flights)
-            self.assertEqual((item.touched, item.mirrors), (around - mirrors, mirrors))
+            self.assertEqual((item.touched_cells, item.mirrors), (around - mirrors, mirrors))
             self.assertEqual(item.claims, {number for flight in flights for number in flight})
-            counts = BlockCounts(Layout(128, 128, 64), (number for flight in flights for number in flight))
+            counts = BlockClaimCounts(Layout(128, 128, 64), (number for flight in flights for number in flight))
             self.assertTrue(all(counts.claim_count(corner) == corners.count(corner) for corner in (*around, -1, 128)))
 
     def test_lone_balls(self) -> None:

@@ -5,7 +5,7 @@ import random
 from typing import Callable
 
 import support
-from bbmlab_core.circuits.netlists import NetlistError, NetlistFormat, map_netlist, netlist_format
+from bbmlab_core.circuits.netlists import NetlistError, NetlistFormat, guessed_netlist_format, map_netlist
 from bbmlab_core.texts.circuits import values_and_undefined_gate
 
 RULES: dict[str, Callable[[list[bool]], bool]] = {
@@ -41,7 +41,7 @@ class Gates(support.InRoom):
         chance = random.Random(82)
         for _ in range(60):
             text, inputs, gates, outputs = random_text(chance)
-            self.assertIs(netlist_format(text), NetlistFormat.GATES)
+            self.assertIs(guessed_netlist_format(text), NetlistFormat.GATES)
             with support.FEW_TRIES:
                 circuit = support.circuit_of(map_netlist(text).text)
             for bits in itertools.product((False, True), repeat=len(inputs)):
@@ -69,8 +69,9 @@ class Gates(support.InRoom):
     def test_a_circuit_section_stays(self) -> None:
         """A text with conservative gates alone is no text of plain gates, and neither is one with a layout."""
         for name in ("half_adder", "machine_fredkin", "fredkin_gate"):
-            self.assertIsNone(netlist_format(support.text_of(name)))
-        self.assertIsNone(netlist_format("circuit\ninput a\ninput b\nand a b -> c\noutput c\nend\nlayout 2 2 0\nend\n"))
+            self.assertIsNone(guessed_netlist_format(support.text_of(name)))
+        self.assertIsNone(guessed_netlist_format("circuit\ninput a\ninput b\nand a b -> c\noutput c\nend\n"
+                                                 "layout 2 2 0\nend\n"))
 
     def test_sentences(self) -> None:
         """Each wrong line, and what its sentence says."""

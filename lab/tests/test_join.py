@@ -22,19 +22,20 @@ from bbmlab_core.joining import command, lone_ways, modules, planning, wiring
 from bbmlab_core.joining.composing import Composition, Connection, NamedPart, compose, feeding_order
 from bbmlab_core.joining.lone_ways import whole_balls_of
 from bbmlab_core.joining.parts import read_part
-from bbmlab_core.joining.places import LEAST_GAP, Extent, all_places
+from bbmlab_core.joining.places import LEAST_GAP, Extent, place_arrangements
 from bbmlab_core.joining.slack import LoneWayCuts, WayCut
-from bbmlab_core.joining.turning import ORIENTATIONS, UPRIGHT, Placing
+from bbmlab_core.joining.turning import ORIENTATIONS, UNTURNED, PartTransform
 from bbmlab_core.physics.simulation import layout_run
 from bbmlab_core.route import coil_ways, coils
 from bbmlab_core.route.attempt import Attempt
-from bbmlab_core.route.balls import BOUNCE_STEPS, Ball, Turn, bounce, follow_legs, mirror_cells
+from bbmlab_core.route.balls import (BOUNCE_STEPS, Ball, BounceKind, ball_and_mirror_after_bounce, follow_legs,
+                                     mirror_cells)
 from bbmlab_core.route.command import ProgressLine
 from bbmlab_core.route.netlist import RouterNetlist
 from bbmlab_core.route.paths import PathFinder
-from bbmlab_core.route.settings import OPEN_END_STEPS, Settings
-from bbmlab_core.route.world import (MARGIN_CELLS, ROW_STRIDE, STEP_STRIDE, TILE, Footprint, World, cell_number,
-                                     cell_of_number, path_item)
+from bbmlab_core.route.settings import OPEN_END_STEPS, RouterSettings
+from bbmlab_core.route.world import (MARGIN_CELLS, ROW_STRIDE, STEP_STRIDE, TILE_SIDE, Footprint, RoutingGrid,
+                                     cell_number, cell_of_number, path_footprint)
 from bbmlab_core.texts.certificates import Module
 from bbmlab_core.texts.circuits import values_and_undefined_gate
 from bbmlab_core.texts.documents import Document, read_document
@@ -96,7 +97,7 @@ class Joining(unittest.TestCase):
             on = {name for name in circuit.inputs if chance.random() < 0.6}
             run = layout_run(layout, on)
             self.assertTrue(run.run_to(layout.steps))
-            live, values = run.field.state(), values_and_undefined_gate(circuit, on)[0]
+            live, values = run.field.live_cells_under(), values_and_undefined_gate(circuit, on)[0]
             for part in layout.of_kind("out"):
                 self.assertEqual(part.cell in live, values[part.name or ""], (part, on))
 
@@ -171,7 +172,7 @@ class Joining(unittest.TestCase):
             self.assertTrue(way.inner_ball.is_legal)
             self.assertFalse(way.mirrors - made.parts[0].bundle.layout.mirror_cells())
         parts = {part.name: part.bundle for part in made.parts}
-        with mock.patch.object(planning, "fitting_orientations", lambda placed: [UPRIGHT]):
+        with mock.patch.object(planning, "fitting_orientations", lambda placed: [UNTURNED]):
             whole = planning.make_plan(compose(parts, made.connections, set(ways)), 512, [0])
             plan = planning.make_plan(made, 512, [0])
         assert plan and whole
@@ -235,22 +236,22 @@ class Joining(unittest.TestCase):
 
     def test_paths_that_ignore_a_part(self) -> None:
         """Paths through the parts get a no if the world has only their mirrors."""
-        def add_mirrors(own: wiring.JoinWorld, placed: planning.PlacedPart) -> None:
+        def add_mirrors(own: wiring.JoinRoutingGrid, placed: planning.PlacedPart) -> None:
             own.add(Footprint(frozenset(map(placed.placing.cell_number_map(), placed.part.footprint.mirrors))))
 
-        change = mock.patch.object(wiring.JoinWorld, "add_part", add_mirrors)
+        change = mock.patch.object(wiring.JoinRoutingGrid, "add_part", add_mirrors)
         # Balls wander through the parts, which cost nothing.
         with mock.patch.multiple(wiring, INSIDE_STEP_COST=0, INWARD_STEP_COST=0, LEAST_COIL_STEPS=10 ** 6):
             self.assertIn("verdict no", self.verdict_with(change))
 
     def test_a_lost_wire(self) -> None:
         """If no module is told of the wires of paths, the text is refused."""
-        change = mock.patch.object(modules.JoinedModules, "count_wire", lambda *words: None)
+        change = mock.patch.object(modules.JoinedModules, "change_wire_count", lambda *words: None)
         self.assertIn("refused", self.verdict_with(change))
 
     def test_lines_of_a_lone_way(self) -> None:
         """A part that keeps the lines of a ball that comes another way gets no yes."""
-        change = mock.patch.object(NamedPart, "left_out_line_numbers", set[object]())
+        change = mock.patch.object(NamedPart, "left_out_cell_times", set[object]())
         self.assertRegex(self.verdict_with(change), "verdict no|^refused")
 
     # --- time and room between parts ----------------------------------------------------------------------------------
@@ -259,19 +260,19 @@ class Joining(unittest.TestCase):
         """Parts have gaps between them and around them, in eight ways for each number of rows, and each is beside the
         next one."""
         areas = [Extent(160 + 16 * (index % 3), 160) for index in range(7)]
-        found = list(all_places(areas, 800))
+        found = list(place_arrangements(areas, 800))
         self.assertEqual(len({tuple(places) for places in found}), 8 * ROW_COUNTS)
         for places in found:
             boxes = [(x, y, x + own.width, y + own.height) for (x, y), own in zip(places, areas)]
             for number, (left, top, right, bottom) in enumerate(boxes):
                 self.assertTrue(min(left, top) >= LEAST_GAP and max(right, bottom) <= 800 - LEAST_GAP)
-                self.assertTrue(left % TILE == top % TILE == 0)
+                self.assertTrue(left % TILE_SIDE == top % TILE_SIDE == 0)
                 for x, y, far, low in boxes[:number]:
                     self.assertTrue(left >= far + LEAST_GAP or x >= right + LEAST_GAP or top >= low + LEAST_GAP
                                     or y >= bottom + LEAST_GAP)
             for (x, y), (across, down) in zip(places, places[1:]):
                 self.assertLess(max(abs(x - across), abs(y - down)), 160 + 32 + 8 * LEAST_GAP)
-        self.assertEqual(list(all_places(areas, 600)), [])
+        self.assertEqual(list(place_arrangements(areas, 600)), [])
 
     def test_order_of_parts(self) -> None:
         """A part comes next to those that feed it: before other parts that nothing feeds."""
@@ -287,15 +288,15 @@ class Joining(unittest.TestCase):
         made = self.made("abcde", words, "sum carry a b")
         ends = []
         for spare, own in enumerate(planning.SPARES):
-            with mock.patch.object(planning, "SHALLOW_CELLS", 30):
+            with mock.patch.object(planning, "SHALLOW_DEPTH_CELLS", 30):
                 plan = planning.make_plan(made, 800, [spare] * len(words))
             assert plan
-            between, world = [job for job in plan.jobs if job.start and job.goal], wiring.JoinWorld(plan)
+            between, world = [job for job in plan.jobs if job.start and job.goal], wiring.JoinRoutingGrid(plan)
             self.assertEqual(len(between), len(words))
             deep = []
             for job in between:
                 assert job.start and job.goal
-                deep.append(max(0, world.depth(job.goal.x, job.goal.y) - 30))
+                deep.append(max(0, world.depth_in_part(job.goal.x, job.goal.y) - 30))
                 self.assertGreaterEqual(job.steps, own.steps_between(job.start, job.goal) + deep[-1], job)
             self.assertTrue(any(deep))
             ends.append(plan.end)
@@ -306,12 +307,12 @@ class Joining(unittest.TestCase):
         search = command.JoinSearch(self.made(), command.JoinOptions(1, None, 60), ProgressLine(60))
         _, _, own = search.prepare_attempt()
         ball = Ball(512, 512, 1, 1, 4000)
-        for depth in (0, planning.SHALLOW_CELLS, planning.SHALLOW_CELLS + 500):
-            with mock.patch.object(own.world, "depth", lambda *words, own=depth: own), mock.patch.object(
+        for depth in (0, planning.SHALLOW_DEPTH_CELLS, planning.SHALLOW_DEPTH_CELLS + 500):
+            with mock.patch.object(own.world, "depth_in_part", lambda *words, own=depth: own), mock.patch.object(
                     own.finder, "wander", return_value=False) as wander:
-                self.assertIsNone(own.find_connecting_path("w", ball.at(0), ball))
+                self.assertIsNone(own.find_connecting_path("w", ball.at_time(0), ball))
             steps, deep = [ball.time + call.args[1]
-                           for call in wander.call_args_list], max(0, depth - planning.SHALLOW_CELLS)
+                           for call in wander.call_args_list], max(0, depth - planning.SHALLOW_DEPTH_CELLS)
             self.assertEqual(len(steps), wiring.CONNECT_TRIES)
             self.assertGreaterEqual(min(steps), wiring.STEPS_BACK_RANGE[0] + deep)
             self.assertLessEqual(max(steps), wiring.STEPS_BACK_RANGE[1] + 2 * deep)
@@ -323,10 +324,10 @@ class Joining(unittest.TestCase):
         _, _, own = search.prepare_attempt()
         ball, least = Ball(400, 400, 1, 1, 1000), 100 + planning.SPARES[-1].steps
         for depth, steps, tried, order in ((0, least, 0, "RO"), (0, least - 1, 0, "R"), (0, least, 1, "R"),
-                                           (planning.SHALLOW_CELLS + 1, least - 1, 0, "OR"),
-                                           (planning.SHALLOW_CELLS + 1, least, 1, "R")):
+                                           (planning.SHALLOW_DEPTH_CELLS + 1, least - 1, 0, "OR"),
+                                           (planning.SHALLOW_DEPTH_CELLS + 1, least, 1, "R")):
             goal, found = Ball(500, 500, 1, 1, 1000 + steps), list[str]()
-            with mock.patch.object(own.world, "depth", lambda *words, own=depth: own), mock.patch.object(
+            with mock.patch.object(own.world, "depth_in_part", lambda *words, own=depth: own), mock.patch.object(
                     own, "find_connecting_path", lambda *words, found=found: found.append("R")), mock.patch.object(
                     own, "find_path_outside", lambda *words, found=found: found.append("O")):
                 self.assertIsNone(own.find_path(planning.BallJob("w", ball, goal, goal.time), tried))
@@ -339,23 +340,24 @@ class Joining(unittest.TestCase):
         job = own.plan.jobs[0]
         assert job.start and job.goal
         counts = dict(zip(wiring.GOAL_STEP_COSTS, (1, 9, 2)))
-        with mock.patch.object(coil_ways.OpenSearch, "ways", lambda self: iter(range(counts[self.goal_cells]))):
-            found = list(own.ways_from_open(job.start, job.goal, lambda _: True))
+        with mock.patch.object(coil_ways.OpenGroundSearch, "ways_to_free_squares",
+                               lambda self: iter(range(counts[self.goal_cells]))):
+            found = list(own.ways_from_open_ground(job.start, job.goal, lambda _: True))
         first, second, third = wiring.GOAL_STEP_COSTS
         self.assertEqual(found, [(first, 0), (second, 0), (third, 0), (second, 1), (third, 1),
-                                 *((second, number) for number in range(2, wiring.OPEN_WAYS))])
+                                 *((second, number) for number in range(2, wiring.OPEN_GROUND_WAYS))])
 
     def test_more_time_for_one_ball(self) -> None:
         """A ball between two parts that cannot be led in its time gets more, and no other one does."""
         search = command.JoinSearch(self.made(), command.JoinOptions(1, None, 60), ProgressLine(60))
         _, _, own = search.prepare_attempt()
-        with mock.patch.object(wiring.JoinWiring, "lead", lambda *words: False):
-            with self.assertRaises(wiring.TightError) as caught:
+        with mock.patch.object(wiring.JoinWiring, "lead_ball", lambda *words: False):
+            with self.assertRaises(wiring.TooFewStepsError) as caught:
                 own.run(lambda *words: None, [0])
         self.assertEqual(caught.exception.connections, [0])
         search.spares = [0, 2]
         results = [caught.exception, mock.sentinel.bundle]
-        with mock.patch.object(command.JoinSearch, "attempt", side_effect=results):
+        with mock.patch.object(command.JoinSearch, "make_join_attempt", side_effect=results):
             self.assertEqual(search.run(), (mock.sentinel.bundle, ""))
         self.assertEqual(search.spares, [1, 2])
 
@@ -375,18 +377,18 @@ class Joining(unittest.TestCase):
         """A coil takes its steps: its path meets itself nowhere, and stays in its box behind the entry."""
         for (dx, dy), steps in itertools.product(itertools.product((1, -1), repeat=2), (90, 327, 328, 2567, 9000)):
             ball = Ball(1000 + (dx < 0), 1000 + (dy < 0), dx, dy, 0)
-            for coil in coils.coils_of(ball, coils.least_width(steps)):
+            for coil in coils.coils_entered_by(ball, coils.least_coil_width(steps)):
                 legs = list(coil.legs(steps))
                 self.assertEqual(sum(leg.steps for leg in legs), steps)
-                item = path_item(ball, legs)
+                item = path_footprint(ball, legs)
                 assert item
-                cells = {cell_of_number(number) for number in item.mirrors | item.touched}
+                cells = {cell_of_number(number) for number in item.mirrors | item.touched_cells}
                 self.assertTrue(all(coil.box.has(cell) for cell in cells), (ball, steps))
 
     def test_balls_wait_in_coils(self) -> None:
         """A ball that waits long goes to a coil, or comes from one, and is there at its time."""
         plan = planning.JoinPlan(1024, 4000, [], [], 1024, 1024)
-        own = wiring.JoinWiring(plan, mock.Mock(), 1, command.SETTINGS, float("inf"))
+        own = wiring.JoinWiring(plan, mock.Mock(), 1, command.JOIN_SETTINGS, float("inf"))
         # The balls are where a part would be.
         own.ground = coil_ways.CoilGround(own.world, [Box(400, 450, 220, 100)])
         for number in range(8):
@@ -408,42 +410,42 @@ class Joining(unittest.TestCase):
 
     def test_legs_to_coils(self) -> None:
         """What a leg to a coil takes is in its rectangle. A bounce is sought wherever its mirror has room."""
-        world, chance = World(512), random.Random(1)
+        world, chance = RoutingGrid(512), random.Random(1)
         for _ in range(300):
             world.add(Footprint(frozenset([cell_number((chance.randrange(180, 330), chance.randrange(180, 330)))])))
-        finder = PathFinder(world, chance, command.SETTINGS)
+        finder = PathFinder(world, chance, command.JOIN_SETTINGS)
         for dx, dy, is_backward in itertools.product((1, -1), (1, -1), (False, True)):
             ball = Ball(256 + (dx < 0), 256 + (dy < 0), dx, dy, 1000)
             search = coil_ways.CoilSearch(finder, coil_ways.CoilGround(world, []), ball, 3000 * (not is_backward),
                                           is_backward)
             first = search.first
-            room = world.free_steps(first.ball, coil_ways.LONGEST_LEG)
-            with mock.patch.object(search, "tried_leg_steps", lambda *words, most=room: range(most + 1)):
-                found = list(search.options_behind(first, room))
+            room = world.free_steps(first.ball, coil_ways.MAX_LEG_STEPS)
+            with mock.patch.object(search, "leg_steps_to_try", lambda *words, most=room: range(most + 1)):
+                found = list(search.bounce_options_behind(first, room))
             self.assertEqual([(option.steps, option.turn) for option in found], [
-                (steps, turn) for steps in range(room + 1) for turn in Turn
-                if world.can_hold(bounce(first.ball.flown(steps), turn)[1])])
-            search.queue, on = found, coil_ways.LEAST_STEPS_ON
+                (steps, turn) for steps in range(room + 1) for turn in BounceKind
+                if world.has_room_for_mirror(ball_and_mirror_after_bounce(first.ball.after_flight(steps), turn)[1])])
+            search.queue, on = found, coil_ways.LEAST_STEPS_AFTER_BOUNCE
             for bend in iter(search.pop_next_bounce, None):
-                self.assertEqual(world.free_steps(bend.ball.flown(BOUNCE_STEPS), on), on)
+                self.assertEqual(world.free_steps(bend.ball.after_flight(BOUNCE_STEPS), on), on)
                 item, left, right, top, bottom = bend.spans[-1]
-                for x, y in map(cell_of_number, item.mirrors | item.touched):
+                for x, y in map(cell_of_number, item.mirrors | item.touched_cells):
                     self.assertTrue(left <= x <= right and top <= y <= bottom, bend)
 
     def test_ways_to_open_ground(self) -> None:
         """A way out of a part or into it meets nothing, and ends or begins on open ground."""
-        world, chance, part = World(512), random.Random(1), Box(176, 176, 160, 160)
+        world, chance, part = RoutingGrid(512), random.Random(1), Box(176, 176, 160, 160)
         for _ in range(60):
             world.add(Footprint(frozenset([cell_number((chance.randrange(180, 330), chance.randrange(180, 330)))])))
-        finder, ground = PathFinder(world, chance, command.SETTINGS), coil_ways.CoilGround(world, [part])
+        finder, ground = PathFinder(world, chance, command.JOIN_SETTINGS), coil_ways.CoilGround(world, [part])
         for dx, dy, is_backward in itertools.product((1, -1), (1, -1), (False, True)):
             inner = Ball(256 + (dx < 0), 256 + (dy < 0), dx, dy, 2000)
             other = Ball(60, 60, 1, 1, 1000 if is_backward else 3000)
             for cells in wiring.GOAL_STEP_COSTS:
-                search = coil_ways.OpenSearch(finder, ground, inner, other, is_backward, lambda _: True, cells)
-                legs = next(search.ways())
+                search = coil_ways.OpenGroundSearch(finder, ground, inner, other, is_backward, lambda _: True, cells)
+                legs = next(search.ways_to_free_squares())
                 first = finder.start_of_legs(inner, legs) if is_backward else inner
-                item, last = path_item(first, legs), follow_legs(first, legs)[0]
+                item, last = path_footprint(first, legs), follow_legs(first, legs)[0]
                 assert item
                 self.assertTrue(world.can_add(item))
                 self.assertEqual(inner, last if is_backward else first)
@@ -453,29 +455,30 @@ class Joining(unittest.TestCase):
 
     def test_ground_of_coils(self) -> None:
         """Squares are free if nothing is in them or near them. Tiles far away from them need as many steps at least."""
-        size, part, world = 160, Box(50, 40, 20, 30), World(160)
+        size, part, world = 160, Box(50, 40, 20, 30), RoutingGrid(160)
         taken = [(30, 100), (100, 60), *part.ring()]
         world.add(Footprint(frozenset(map(cell_number, taken[:2]))))
         ground, side, street = coil_ways.CoilGround(world, [part]), 40, coil_ways.PATH_STREET_CELLS
-        ground.take_box_and_street(Box(130, 120, 20, 20))
-        squares = ground.squares(side, 80)
+        ground.exclude_box_and_street(Box(130, 120, 20, 20))
+        squares = ground.free_squares_near(side, 80)
         for x, y in itertools.product(range(0, size, 3), repeat=2):
             own, around = Box(x, y, side, side), Box(x - street, y - street, side + 2 * street, side + 2 * street)
             inside = min(x, y) >= MARGIN_CELLS and max(x, y) + side <= size - MARGIN_CELLS
             free = inside and not any(map(around.has, taken[:2])) and not any(map(own.has, taken[2:])) and (
                 x + side <= 130 - coil_ways.STREET_CELLS or y + side <= 120 - coil_ways.STREET_CELLS)
-            self.assertEqual(squares.has(x, y), free, (x, y))
-        places = [(x + side // 2, y + side // 2) for x in range(size) for y in range(size) if squares.has(x, y)]
+            self.assertEqual(squares.has_corner_at(x, y), free, (x, y))
+        places = [(x + side // 2, y + side // 2) for x in range(size) for y in range(size)
+                  if squares.has_corner_at(x, y)]
         distances = squares.tile_distances()
         for x, y in ((5, 5), (60, 55), (155, 155)):
             least = min(max(abs(i - x), abs(j - y)) for i, j in places)
-            self.assertLess(abs(distances.steps_from(x, y) - least), 2 * TILE)
+            self.assertLess(abs(distances.least_steps_from(x, y) - least), 2 * TILE_SIDE)
 
     def test_turned_numbers(self) -> None:
         """The numbers of the cells and of the blocks of a turned part are those of its turned cells."""
         chance = random.Random(1)
         for turning in ORIENTATIONS:
-            placing = Placing(160, 96, 320, 640, 40, turning)
+            placing = PartTransform(160, 96, 320, 640, 40, turning)
             cells, blocks = placing.cell_number_map(), placing.block_number_map()
             for _ in range(20):
                 x, y, time = chance.randrange(0, 158), chance.randrange(0, 94), chance.randrange(100)
@@ -486,13 +489,13 @@ class Joining(unittest.TestCase):
                                  (time + 40, placing.placed_box(Box(x, y, 2, 2))[:2]))
                 flight = range(number, number + 5 * (STEP_STRIDE + ROW_STRIDE + 1), STEP_STRIDE + ROW_STRIDE + 1)
                 for part in (flight, list(flight), flight[:1]):
-                    self.assertEqual(list(blocks.map_item_part(part)), [blocks(each) for each in part])
+                    self.assertEqual(list(blocks.map_footprint_part(part)), [blocks(each) for each in part])
                 dx, dy = chance.choice((-1, 1)), chance.choice((-1, 1))
                 ball = Ball(2 * (x // 2) + (dx < 0), 2 * (y // 2) + (dy < 0), dx, dy, 2 * time)
                 there = placing.placed_ball(ball)
                 self.assertTrue(ball.is_legal and there.is_legal)
                 self.assertEqual(there.cells(), tuple(map(placing.placed_cell, ball.cells())))
-                self.assertEqual(placing.placed_ball(ball.flown(7)), there.flown(7))
+                self.assertEqual(placing.placed_ball(ball.after_flight(7)), there.after_flight(7))
 
     def test_turned_parts(self) -> None:
         """A join of parts that are mirrored, and turned if they are squares, gets a yes in all ways."""
@@ -508,7 +511,7 @@ class Joining(unittest.TestCase):
     def test_balls_of_cells(self) -> None:
         """The balls of cells are found by place and time. Cells that are no balls are not taken for some."""
         even = [Ball(10, 10, 1, 1, 4), Ball(14, 14, 1, 1, 4), Ball(21, 30, -1, 1, 4), Ball(41, 41, -1, -1, 4)]
-        for balls, moment in ((even, 4), ([ball.moved(1, 1, 1) for ball in even], 5)):
+        for balls, moment in ((even, 4), ([ball.shifted_by(1, 1, 1) for ball in even], 5)):
             self.assertTrue(all(ball.is_legal for ball in balls))
             cells = [cell for ball in balls for cell in ball.cells()]
             self.assertEqual(sorted(whole_balls_of(cells, moment) or []), sorted(balls))
@@ -519,7 +522,7 @@ class Joining(unittest.TestCase):
         circuit = read_document(BLOCK, "circuit").circuit
         assert circuit
         for steps in (OPEN_END_STEPS, 0):
-            design = Attempt(RouterNetlist(circuit), 160, 1, Settings(open_end_steps=steps)).run()
+            design = Attempt(RouterNetlist(circuit), 160, 1, RouterSettings(open_end_steps=steps)).run()
             ends = [path for path in design.paths if path.end.time == design.end]
             kept = sum(len(path.item.mirrors) > len(mirror_cells(path.mirrors())) for path in ends)
             self.assertEqual(kept > 0, steps > 0)
@@ -529,7 +532,7 @@ class Joining(unittest.TestCase):
         made = self.made()
         plan = planning.make_plan(made, planning.estimated_side(made, [3]), [3])
         assert plan
-        own = wiring.JoinWiring(plan, modules.JoinedModules(made, plan), 1, command.SETTINGS, float("inf"))
+        own = wiring.JoinWiring(plan, modules.JoinedModules(made, plan), 1, command.JOIN_SETTINGS, float("inf"))
         for job in plan.jobs:
             self.assertIsNotNone(next((path for path in (own.find_path(job) for _ in range(4)) if path), None), job)
 

@@ -9,8 +9,8 @@ from pathlib import Path
 from typing import Callable, NamedTuple
 
 import support
-from bbmlab_core.host.program import ask
-from bbmlab_core.physics.simulation import WholeRun, cell_of, end_tables, key_of
+from bbmlab_core.host.program import ask_program
+from bbmlab_core.physics.simulation import WholeRun, cell_of, key_of, required_end_tables
 from bbmlab_core.texts.circuits import Circuit, evaluate_all
 from bbmlab_core.texts.documents import read_document
 from bbmlab_core.texts.layouts import Cell, Layout
@@ -184,7 +184,7 @@ def ends_well(text: str) -> bool:
     run = WholeRun(layout, values.tables, values.full)
     if not run.run_to(layout.steps):
         return False
-    wanted = end_tables(layout, values.tables, values.full)
+    wanted = required_end_tables(layout, values.tables, values.full)
     cells = wanted.keys() | {cell_of(key) for key in run.field.live}
     return all(wanted.get(cell, 0) in (None, run.field.live.get(key_of(cell), 0)) for cell in cells)
 
@@ -195,7 +195,7 @@ def verdict(text: str) -> str:
         path = Path(folder, "design.txt")
         path.write_text(text)
         bundle = support.lab("certify", "--program", support.program(), str(path)).stdout
-    return ask(support.program(), "check", bundle.encode()).output
+    return ask_program(support.program(), "check", bundle.encode()).output
 
 
 class Joining(unittest.TestCase):

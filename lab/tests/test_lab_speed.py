@@ -15,15 +15,15 @@ from unittest import mock
 import support
 from bbmlab_core.certify.certifier import CertificateOptions, certified_text
 from bbmlab_core.cli import main
-from bbmlab_core.explain.diagnosis import Diagnosis
+from bbmlab_core.explain.diagnosis import DiagnosticRuns
 from bbmlab_core.explain.expected_lines import BorderCheck
 from bbmlab_core.explain.explaining import explain_answer
 from bbmlab_core.explain.fixing import Fixer
-from bbmlab_core.explain.trials import Budget, TrialRunner
-from bbmlab_core.host.program import ask
+from bbmlab_core.explain.trials import TrialBudget, TrialRunner
+from bbmlab_core.host.program import ask_program
 from bbmlab_core.host.terminal import LabError
 from bbmlab_core.physics import tracing
-from bbmlab_core.physics.simulation import Fault, ModuleRun, WholeRun, key_of, lowest_bit, layout_run
+from bbmlab_core.physics.simulation import Fault, ModuleRun, WholeRun, key_of, least_assignment, layout_run
 from bbmlab_core.pictures.golly import golly_text
 from bbmlab_core.texts import designs
 from bbmlab_core.texts.assigns import AssignReader
@@ -31,8 +31,8 @@ from bbmlab_core.texts.certificates import Certificate, CertificateReader
 from bbmlab_core.texts.circuits import Circuit, CircuitReader, Gate, evaluate_samples, sampled_tables
 from bbmlab_core.texts.documents import HEADER_LINE_PATTERN, HEADER_WORDS, Document
 from bbmlab_core.texts.json_form import indented_json
-from bbmlab_core.texts.layouts import Box, Layout, LayoutReader, Part
-from bbmlab_core.texts.lines import LineForm, Values, match_line, word_value
+from bbmlab_core.texts.layouts import Box, Layout, LayoutPart, LayoutReader
+from bbmlab_core.texts.lines import LineForm, LineValues, match_line, word_value
 from test_studio_model import random_layout
 
 # Memory in which the trace of a large layout fits.
@@ -56,7 +56,8 @@ def bundles() -> dict[str, Document]:
 def plain_least_fault(run: ModuleRun) -> Fault | None:
     """Returns the least fault of a module by a run that makes each step."""
     while True:
-        found = [Fault(run.time, rank, cell[1], cell[0], lowest_bit(table)) for rank, cell, table in run.faults_now()]
+        found = [Fault(run.time, rank, cell[1], cell[0], least_assignment(table))
+                 for rank, cell, table in run.faults_now()]
         if found or run.time == run.layout.steps:
             return min(found, default=None)
         run.step()
@@ -110,9 +111,9 @@ class Runs(unittest.TestCase):
             layout = random_layout(chooser, 0, 30)
             on = [name for name in "pq" if chooser.randrange(2)]
             trace, run = tracing.trace_layout(layout, on, 0, layout.steps), layout_run(layout, on)
-            states = [run.field.state()]
+            states = [run.field.live_cells_under()]
             while run.time < layout.steps and run.step():
-                states.append(run.field.state())
+                states.append(run.field.live_cells_under())
             self.assertEqual(trace.states, states)
             self.assertEqual(trace.leaving_step, run.left and run.left[0])
             broken += any(moment.dead_mirror_cells for moment in trace.moments)
@@ -123,7 +124,7 @@ class Runs(unittest.TestCase):
     def test_borders(self) -> None:
         """The tables of ring cells by time are those of a run that looks at all cells at each odd time."""
         for name, document in bundles().items():
-            diagnosis = Diagnosis(document)
+            diagnosis = DiagnosticRuns(document)
             check, run = BorderCheck(diagnosis), WholeRun(diagnosis.layout, diagnosis.wire_tables.tables,
                                                           diagnosis.wire_tables.full)
             borders = {cell for module in diagnosis.certificate.modules for cell in module.box.ring()
@@ -142,8 +143,8 @@ class Runs(unittest.TestCase):
         """The parts in a box are those that a look at all parts finds, clipped, and the look is at few of many parts.
         """
         chooser = random.Random(82)
-        parts = [Part("mirror", None, chooser.randrange(990), chooser.randrange(990), chooser.choice((1, 2, 9, 90)),
-                      chooser.choice((1, 2, 9, 90))) for _ in range(90)]
+        parts = [LayoutPart("mirror", None, chooser.randrange(990), chooser.randrange(990),
+                            chooser.choice((1, 2, 9, 90)), chooser.choice((1, 2, 9, 90))) for _ in range(90)]
         layout = Layout(1000, 1000, 9).with_parts(parts)
         every = [set(part.cells()) for part in parts]
         for _ in range(60):
@@ -242,7 +243,7 @@ class Forms(unittest.TestCase):
             self.assertEqual(read_sections, [], words)
 
 
-def plain_values(words: list[str], form: LineForm) -> Values | None:
+def plain_values(words: list[str], form: LineForm) -> LineValues | None:
     """Returns the values of the placeholders of a form for the words of a line, or None if one does not fit."""
     try:
         values = [(place, word_value(word, place)) for word, place in zip(words, form, strict=True)]
@@ -267,7 +268,7 @@ class Once(support.InRoom):
             self.assertEqual(reader.call_count, 1)
         with mock.patch("bbmlab_core.explain.expected_lines.BorderCheck.all_cell_edits", autospec=True,
                         side_effect=BorderCheck.all_cell_edits) as groups:
-            explain_answer(text, "check", ask(support.program(), "check", text.encode()).output, "text",
+            explain_answer(text, "check", ask_program(support.program(), "check", text.encode()).output, "text",
                            TrialRunner(support.program()))
         own = [call for call in groups.call_args_list if call.args[0].diagnosis.document.text == text]
         self.assertEqual(len(own), 1)
@@ -275,11 +276,11 @@ class Once(support.InRoom):
     def test_effort_is_the_end(self) -> None:
         """When the effort is used up nothing more is tried, for no line of the report."""
         text = support.text_of("wrong_edge")
-        trial = TrialRunner(support.program(), Budget(seconds=30))
+        trial = TrialRunner(support.program(), TrialBudget(seconds=30))
         report = trial.try_text(text)
-        fixer, diagnosis = Fixer(text, report, trial), Diagnosis(read(text))
-        trial.budget = Budget(seconds=0)
-        with mock.patch.object(fixer, "text_after_or_none") as applied:
+        fixer, diagnosis = Fixer(text, report, trial), DiagnosticRuns(read(text))
+        trial.budget = TrialBudget(seconds=0)
+        with mock.patch.object(fixer, "text_after_edits_or_none") as applied:
             self.assertEqual([fixer.find_fix_of_line(diagnosis, finding) for finding in report.faults],
                              [None] * len(report.faults))
         self.assertEqual(applied.call_count, 0)
@@ -288,9 +289,9 @@ class Once(support.InRoom):
         """What `explain` did before the search does not count, so that a large text gets its search too; in the studio
         it counts."""
         text = support.text_of("wrong_edge")
-        output = ask(support.program(), "check", text.encode()).output
+        output = ask_program(support.program(), "check", text.encode()).output
         for is_of_search in (True, False):
-            trial = TrialRunner(support.program(), Budget(is_counted_from_search=is_of_search))
+            trial = TrialRunner(support.program(), TrialBudget(is_counted_from_search=is_of_search))
             trial.started -= 1000.0
             self.assertEqual(explain_answer(text, "check", output, "text", trial).fix is not None, is_of_search)
 
@@ -299,7 +300,7 @@ class Once(support.InRoom):
         certificate, end at their first step."""
         text = support.text_of("wrong_edge")
         document = read(text)
-        diagnosis = Diagnosis(document)
+        diagnosis = DiagnosticRuns(document)
         self.assertTrue(diagnosis.can_run_whole())
         with mock.patch("bbmlab_core.explain.expected_lines.WholeRun.step", autospec=True,
                         side_effect=WholeRun.step) as step:
@@ -308,7 +309,7 @@ class Once(support.InRoom):
             with self.assertRaises(LabError):
                 certified_text(document, None, CertificateOptions(processor_deadline=0.0))
             self.assertLessEqual(step.call_count, 2)
-            self.assertIsNotNone(BorderCheck(Diagnosis(document), 30.0).ring_tables)
+            self.assertIsNotNone(BorderCheck(DiagnosticRuns(document), 30.0).ring_tables)
             self.assertGreater(step.call_count, 5)
 
     def test_trace_of_many_mirrors(self) -> None:

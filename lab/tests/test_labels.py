@@ -8,7 +8,7 @@ from pathlib import Path
 
 import support
 from bbmlab_core.commands.draw import picture_of
-from bbmlab_core.pictures.label_places import NameToPlace, Rect, place_names
+from bbmlab_core.pictures.label_places import NameToPlace, Rect, choose_name_places
 from bbmlab_core.texts.designs import read_layout_file
 
 SVG = "{http://www.w3.org/2000/svg}"
@@ -56,7 +56,8 @@ class Labels(unittest.TestCase):
     def test_alone_a_name_keeps_its_side(self) -> None:
         """With nothing near, an input's name is above its cell and an output's below, both in the middle."""
         cell = Rect(100, 100, 12, 12)
-        above, below = (place_names([NameToPlace(cell, 20, 8, is_above)], [], [])[0].box for is_above in (True, False))
+        above, below = (choose_name_places([NameToPlace(cell, 20, 8, is_above)], [], [])[0].box
+                        for is_above in (True, False))
         self.assertEqual((above.x, below.x), (96, 96))
         self.assertLess(above.y + above.height, 100)
         self.assertGreater(below.y, 112)
@@ -64,12 +65,12 @@ class Labels(unittest.TestCase):
     def test_a_name_stays_in_the_picture(self) -> None:
         """A long name at the border is moved, so that it is not cut off."""
         bounds = Rect(0, 0, 200, 200)
-        box = place_names([NameToPlace(Rect(2, 2, 12, 12), 60, 8, True)], [], [], bounds)[0].box
+        box = choose_name_places([NameToPlace(Rect(2, 2, 12, 12), 60, 8, True)], [], [], bounds)[0].box
         self.assertEqual(box.shared_area(bounds), 60 * 8)
 
     def test_a_crowd(self) -> None:
         """Names of a block of sixteen ports cover no port and no name, though some are away from their cells."""
         cells = [Rect(100 + 12 * (index % 4), 100 + 12 * (index // 4), 12, 12) for index in range(16)]
-        boxes = [place.box for place in place_names([NameToPlace(cell, 30, 8, False) for cell in cells], [], [])]
+        boxes = [place.box for place in choose_name_places([NameToPlace(cell, 30, 8, False) for cell in cells], [], [])]
         self.assertEqual(sum(box.shared_area(cell) for box in boxes for cell in cells), 0)
         self.assertEqual(sum(one.shared_area(other) for index, one in enumerate(boxes) for other in boxes[:index]), 0)

@@ -21,12 +21,12 @@ from bbmlab_core.texts.documents import Document, read_document
 from bbmlab_core.texts.layouts import Box
 from bbmlab_core.texts.limits import FIRST_LIMITS, SECOND_LIMITS
 from bbmlab_core.texts.refusals import explain_refusal, refusal_words
-from bbmlab_core.texts.spelling import spelling_of
+from bbmlab_core.texts.spelling import spell_text
 from bbmlab_core.view import viewing
 
 sys.path.insert(0, str(support.LAB / "public"))
 import bbmlab  # noqa: E402
-from bbmlab._reading import byte_characters  # noqa: E402
+from bbmlab._reading import text_as_byte_characters  # noqa: E402
 
 LINE = "limits 2\n"
 # The last value without the line, and with it (docs/FORMATS.md, Limits).
@@ -117,9 +117,9 @@ class Values(unittest.TestCase):
         """A text of the most bytes is read, and one byte more is an error of the call."""
         for front, most in (("", BYTES[0]), (LINE, BYTES[1])):
             text = front + "x" * (most - len(front))
-            self.assertEqual(len(byte_characters(text)), most)
+            self.assertEqual(len(text_as_byte_characters(text)), most)
             with self.assertRaises(OSError):
-                byte_characters(text + "x")
+                text_as_byte_characters(text + "x")
 
     def test_small_texts_of_large_layouts(self) -> None:
         """A mirror over the whole of the largest layout, and a module that is missing there, take little time and
@@ -181,10 +181,10 @@ class Forms(unittest.TestCase):
     def test_fmt_keeps_the_line(self) -> None:
         """A text in its one spelling keeps the line, which may be written freely before all sections."""
         text = LINE + EMPTY + layout(514)
-        self.assertEqual(spelling_of(text).text, text)
-        self.assertEqual(spelling_of(f"\ufeff# large\n\n  limits   02 # as below\r\n{EMPTY}{layout(514)}").text, text)
-        self.assertEqual(spelling_of(LINE + LINE + EMPTY).text, LINE + LINE + EMPTY)
-        self.assertEqual(spelling_of(LINE + "circuit\noutput a\ninput a\nend\n").text,
+        self.assertEqual(spell_text(text).text, text)
+        self.assertEqual(spell_text(f"\ufeff# large\n\n  limits   02 # as below\r\n{EMPTY}{layout(514)}").text, text)
+        self.assertEqual(spell_text(LINE + LINE + EMPTY).text, LINE + LINE + EMPTY)
+        self.assertEqual(spell_text(LINE + "circuit\noutput a\ninput a\nend\n").text,
                          LINE + "circuit\ninput a\noutput a\nend\n")
 
     def test_json(self) -> None:
@@ -228,7 +228,7 @@ class Forms(unittest.TestCase):
         self.assertEqual(golly.layout_text_from_golly(pattern), text)
         bare = "\n".join(line for line in pattern.split("\n") if not line.startswith("#C"))
         self.assertRegex(golly.layout_text_from_golly(bare), r"\Alimits 2\nlayout \d+ \d+ 0\n")
-        self.assertTrue(tracing.run_input(lines, []).startswith(b"limits 2\nlayout 4096 "))
+        self.assertTrue(tracing.bytes_for_run_command(lines, []).startswith(b"limits 2\nlayout 4096 "))
 
     def test_certify_writes_the_line_only_if_asked(self) -> None:
         """A certificate of a layout within the first limits comes without the line, and any other with it."""

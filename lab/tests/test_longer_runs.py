@@ -6,8 +6,8 @@ import itertools
 import unittest
 
 import support
-from bbmlab_core.host.program import ask
-from bbmlab_core.physics.longer_runs import spare_run_steps
+from bbmlab_core.host.program import ask_program
+from bbmlab_core.physics.longer_runs import free_steps_before_and_after
 from bbmlab_core.texts.circuits import values_and_undefined_gate
 from bbmlab_core.texts.documents import read_document
 from bbmlab_core.texts.layouts import Cell
@@ -58,7 +58,7 @@ def is_good(program: str, cell: StandardCell, before: int, after: int) -> bool:
     for bits in itertools.product((False, True), repeat=len(circuit.inputs)):
         on = {wire for wire, bit in zip(circuit.inputs, bits) if bit}
         assign = "\n".join(["assign", *(f"on {name}" for name in sorted(on)), "end", ""])
-        answer = ask(program, "run", (text + assign).encode())
+        answer = ask_program(program, "run", (text + assign).encode())
         live = {(int(x), int(y)) for x,
                 y in (line.split() for line in answer.output.splitlines()[1:])} if answer.status == 0 else set()
         values, _ = values_and_undefined_gate(circuit, on)
@@ -76,7 +76,7 @@ class LongerRuns(unittest.TestCase):
         for name in cell_names():
             layout, circuit = layout_and_circuit(read_cell(name).document)
             with self.subTest(name):
-                self.assertEqual(spare_run_steps(circuit, layout), LIMITS.get(name, (None, None)))
+                self.assertEqual(free_steps_before_and_after(circuit, layout), LIMITS.get(name, (None, None)))
 
     def test_the_program_agrees(self) -> None:
         """The program runs each cell well up to its limits, and not one step beyond."""
@@ -98,7 +98,7 @@ class LongerRuns(unittest.TestCase):
             self.assertIsNone(document.refusal)
             layout, circuit = layout_and_circuit(document)
             with self.subTest(mirror):
-                self.assertEqual(spare_run_steps(circuit, layout), wanted)
+                self.assertEqual(free_steps_before_and_after(circuit, layout), wanted)
 
     def test_words(self) -> None:
         """The list says both figures."""

@@ -14,7 +14,7 @@ from unittest import mock
 
 import support
 from bbmlab_core.certify.certifier import (CertificateMaker, ImpossibleModuleError, CertificateOptions, certified_text,
-                                           legal_grid_boxes)
+                                           checked_grid_boxes)
 from bbmlab_core.host.terminal import LabError
 from bbmlab_core.physics.simulation import layout_run
 from bbmlab_core.pictures import golly
@@ -23,7 +23,7 @@ from bbmlab_core.texts import json_form
 from bbmlab_core.texts.certificates import Module
 from bbmlab_core.texts.layouts import Box
 from bbmlab_core.texts.reports import parse_report
-from bbmlab_core.texts.spelling import spelling_of
+from bbmlab_core.texts.spelling import spell_text
 
 # Examples, and grids by which they have a certificate.
 GRIDS = [("fredkin_gate", (14, 14)), ("full_adder", (26, 34)), ("timed_modules", (4, 4)), ("gate_and_mirror", (8, 12)),
@@ -144,7 +144,7 @@ def by_grid(name: str, grid: tuple[int, int], plan: CertificateOptions) -> str:
     """Returns an example with a certificate whose boxes are those of a grid."""
     document = design(name)
     assert document.layout is not None
-    return certified_text(document, legal_grid_boxes(document.layout, *grid), plan)
+    return certified_text(document, checked_grid_boxes(document.layout, *grid), plan)
 
 
 class Spelling(unittest.TestCase):
@@ -155,7 +155,8 @@ class Spelling(unittest.TestCase):
         for case in support.worked_cases():
             if case.status in (0, 1) and len(case.input) < 20000:
                 with self.subTest(case.name):
-                    self.assertEqual(spelling_of(support.decode(case.input)).text, support.decode(case.input))
+                    self.assertEqual(spell_text(support.decode_latin1(case.input)).text,
+                                     support.decode_latin1(case.input))
 
     def test_free_texts_come_back(self) -> None:
         """A text with comments, odd spaces, other line ends and shuffled lists of modules comes back."""
@@ -163,7 +164,7 @@ class Spelling(unittest.TestCase):
         for name in ("gate_and_mirror", "four_modules", "timed_modules", "full_adder"):
             text = support.text_of(name)
             with self.subTest(name):
-                self.assertEqual(spelling_of(roughened(text, chooser)).text, text)
+                self.assertEqual(spell_text(roughened(text, chooser)).text, text)
 
     def test_a_refused_text_is_mended(self) -> None:
         """`fmt` on a Windows text is what the program takes."""
@@ -211,7 +212,7 @@ class Json(unittest.TestCase):
         for name in ("head_on", "off_a_mirror", "full_adder"):
             document = support.read_document(support.text_of(name))
             lines = document.text[document.text.index("layout "):].split("\nend\n")[0].split("\n") + ["end"]
-            live = layout_run(document.layout, ["p"]).field.state()
+            live = layout_run(document.layout, ["p"]).field.live_cells_under()
             text = golly.golly_text(document.layout, live, ["p"], lines)
             with self.subTest(name):
                 self.assertEqual(golly.layout_text_from_golly(text), "\n".join(lines) + "\n")
@@ -228,7 +229,7 @@ class Json(unittest.TestCase):
                 run = layout_run(document.layout, on)
                 run.run_to(time)
                 with self.subTest(f"{name} at {time}"):
-                    self.assertEqual(golly_run(document, on, time), run.field.state())
+                    self.assertEqual(golly_run(document, on, time), run.field.live_cells_under())
 
     def test_free_patterns_keep_their_phase(self) -> None:
         """Live cells without comments become balls whose blocks are even ones."""
@@ -238,7 +239,7 @@ class Json(unittest.TestCase):
 
 def golly_run(document: support.Document, on: list[str], time: int) -> set:
     """Returns the live cells that Golly has at a time."""
-    start = layout_run(document.layout, on).field.state()
+    start = layout_run(document.layout, on).field.live_cells_under()
     with tempfile.TemporaryDirectory() as room:
         before, after = Path(room) / "before.rle", Path(room) / "after.rle"
         before.write_text(golly.golly_text(document.layout, start, on, []))
@@ -248,8 +249,8 @@ def golly_run(document: support.Document, on: list[str], time: int) -> set:
             subprocess.run(["bgolly", "-q", "-q", "-a", "RuleLoader", "-s", "/usr/share/golly/Rules/", "-m", str(time),
                             "-o", str(after), str(before)], check=True, capture_output=True)
         # bgolly does not write where the pattern lies; its dead margin stays as it was.
-        return golly.live_cells(golly.golly_states_and_comments(f"#CXRLE Pos={-golly.MARGIN},{-golly.MARGIN}\n"
-                                                                + after.read_text())[0])
+        place = f"#CXRLE Pos={-golly.DEAD_MARGIN_CELLS},{-golly.DEAD_MARGIN_CELLS}\n"
+        return golly.live_cells(golly.golly_states_and_comments(place + after.read_text())[0])
 
 
 class Pictures(unittest.TestCase):

@@ -8,15 +8,15 @@ from pathlib import Path
 from unittest.mock import patch
 
 import support
-from bbmlab_core.explain.edits import addition, deletion, edits_between, text_after
-from bbmlab_core.explain.explaining import as_gcc, explain_answer
+from bbmlab_core.explain.edits import addition, deletion, edits_between, text_after_edits
+from bbmlab_core.explain.explaining import explain_answer, gcc_error_lines
 from bbmlab_core.farm.checking import text_files_below
 from bbmlab_core.farm.receipts import ReceiptError, parse_receipt
 from bbmlab_core.host.terminal import LabError, replace_file
 from bbmlab_core.texts.skimming import certificate_digest
 from bbmlab_core.pictures.golly import layout_text_from_golly
 from bbmlab_core.texts.certificates import Module
-from bbmlab_core.texts.designs import require_report_of
+from bbmlab_core.texts.designs import require_report_of_document
 from bbmlab_core.texts.reports import ReportError, parse_report
 from bbmlab_core.texts.shape_hints import character_hints
 
@@ -166,12 +166,12 @@ class Edits(support.InRoom):
         self.assertEqual(edits_between("a\nb\n\n", "a\nb\n"), [deletion(3)])
         self.assertEqual(edits_between("a\nb\n", "a\nb\n"), [])
         self.assertEqual(edits_between("a\nb", "a\nb\n"), [addition(2, "")])
-        self.assertEqual(addition(2, "").words(["a", "b"]), "Add a line feed at the end of the file.")
+        self.assertEqual(addition(2, "").as_sentence(["a", "b"]), "Add a line feed at the end of the file.")
 
     def test_equal_lines(self) -> None:
         """Edits between texts of many equal lines make the one of the other."""
         old, new = "waste 2 2\n# c\n" * 1990, "waste 2 2\n" * 1990
-        self.assertEqual(text_after(old, edits_between(old, new)), new)
+        self.assertEqual(text_after_edits(old, edits_between(old, new)), new)
 
     def test_lines_of_nothing(self) -> None:
         """A line about what the text does not have, and a report that contradicts itself, are refused."""
@@ -183,15 +183,15 @@ class Edits(support.InRoom):
                      "no\nkeep 0 0 0\n", "no\nunkept 0\n", "no\nmeet 0 differ\n", "no\nlocal 7 end 2 1 1 0\n", "no\n",
                      "yes\nlocal 0 end 2 1 1 0\n"):
             with self.subTest(rest), self.assertRaises(ReportError):
-                require_report_of(document, parse_report(head + rest))
-        require_report_of(document, parse_report(head + "yes\n"))
-        require_report_of(document, parse_report(head + "no\nlocal 0 end 2 1 1 0\n"))
+                require_report_of_document(document, parse_report(head + rest))
+        require_report_of_document(document, parse_report(head + "yes\n"))
+        require_report_of_document(document, parse_report(head + "no\nlocal 0 end 2 1 1 0\n"))
 
     def test_faults_have_a_line(self) -> None:
         """For editors, a fault at a cell without a line is at its module's line."""
         document = support.read_document(SOURCE)
         report = f"bbmcheck 1\ncertificate {certificate_digest(SOURCE)}\nmodules 1\nverdict no\nlocal 0 end 2 0 3 0\n"
-        told = as_gcc(explain_answer(SOURCE, "check", report, "text"))
+        told = gcc_error_lines(explain_answer(SOURCE, "check", report, "text"))
         module: Module = document.certificate.modules[0]
         self.assertEqual([line.split(" ")[0] for line in told], [f"text:{module.line}:"])
 

@@ -15,12 +15,12 @@ from unittest import mock
 
 import support
 from bbmlab_core.circuits.cones import cone_for_inverse_gate
-from bbmlab_core.circuits.netlists import (NetlistError, NetlistFormat, circuit_text_from_netlist, map_netlist,
-                                           netlist_format)
+from bbmlab_core.circuits.netlists import (NetlistError, NetlistFormat, circuit_text_from_netlist_text,
+                                           guessed_netlist_format, map_netlist)
 from bbmlab_core.texts.circuits import Circuit, evaluate_gates, values_and_undefined_gate
 
 # Fewer tries than users get, which save time: each try is one that a search can end with.
-FEW_TRIES = mock.patch("bbmlab_core.circuits.netlists.search.MAX_TRIES", 60)
+FEW_TRIES = mock.patch("bbmlab_core.circuits.netlists.search.MAX_MAPPING_TRIES", 60)
 ADDER = support.EXAMPLES / "two_bit_adder.v"
 # The cells of yosys, after its cell library: the ports and the value of Y.
 CELLS: dict[str, tuple[str, Callable[..., bool]]] = {
@@ -68,7 +68,7 @@ def words_of(text: str, keyword: str) -> list[str]:
 
 def circuit_of(text: str) -> Circuit:
     """Returns the circuit that a netlist is mapped to, as the lab reads it."""
-    return support.circuit_of(circuit_text_from_netlist(text))
+    return support.circuit_of(circuit_text_from_netlist_text(text))
 
 
 def random_table(chooser: random.Random, name: str, known: list[str]) -> list[str]:
@@ -342,7 +342,7 @@ class Sentences(unittest.TestCase):
         """Each text is refused with its sentence."""
         for name, (text, sentence) in REFUSED.items():
             with self.subTest(name):
-                self.assertRaisesRegex(NetlistError, sentence, circuit_text_from_netlist, text)
+                self.assertRaisesRegex(NetlistError, sentence, circuit_text_from_netlist_text, text)
 
     def test_a_circuit_too_large(self) -> None:
         """A chain that needs more than 16,384 gates is refused with the limit, and so are 20,000 copies of one input.
@@ -354,9 +354,10 @@ class Sentences(unittest.TestCase):
                                                                                   for name in copies)
         for text in (wide_xor(4200), wide_xor(40_000), fan_out):
             with self.subTest(len(text)):
-                self.assertRaisesRegex(NetlistError, "A circuit has at most 16384", circuit_text_from_netlist, text)
+                self.assertRaisesRegex(NetlistError, "A circuit has at most 16384", circuit_text_from_netlist_text,
+                                       text)
         for count, front in ((250, "circuit\n"), (700, "limits 2\ncircuit\n")):
-            self.assertTrue(circuit_text_from_netlist(wide_xor(count)).startswith(front))
+            self.assertTrue(circuit_text_from_netlist_text(wide_xor(count)).startswith(front))
 
     def test_names(self) -> None:
         """Names become legal and stay different, and a note names each change."""
@@ -375,8 +376,9 @@ class Sentences(unittest.TestCase):
         for text, form in ((MODEL, NetlistFormat.BLIF), ("# by hand\n\n.inputs a\n", NetlistFormat.BLIF),
                            (" {}", NetlistFormat.YOSYS_JSON), ("circuit\n", None), ("", None)):
             with self.subTest(text):
-                self.assertIs(netlist_format(text), form)
+                self.assertIs(guessed_netlist_format(text), form)
 
     def test_same_text_each_time(self) -> None:
         """The same netlist gets the same circuit."""
-        self.assertEqual(circuit_text_from_netlist(full_adder_blif()), circuit_text_from_netlist(full_adder_blif()))
+        self.assertEqual(circuit_text_from_netlist_text(full_adder_blif()),
+                         circuit_text_from_netlist_text(full_adder_blif()))

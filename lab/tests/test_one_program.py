@@ -8,12 +8,12 @@ from unittest import mock
 
 import support
 from bbmlab_core.farm import remote
-from bbmlab_core.farm.checking import Checker
+from bbmlab_core.farm.checking import FileChecker
 from bbmlab_core.farm.receipts import ReceiptFolder
 from bbmlab_core.host import sealed
-from bbmlab_core.host.program import ask, open_program
-from bbmlab_core.host.releases import identity_of
-from bbmlab_core.studio.jobs import Jobs
+from bbmlab_core.host.program import ask_program, open_program
+from bbmlab_core.host.releases import program_identity
+from bbmlab_core.studio.jobs import JobQueue
 
 # It says yes to each text, with the digest of its certificate.
 LIE = ("digest=$(sed -n '/^certificate /,$p' | sha256sum)\n"
@@ -60,12 +60,12 @@ class Replaced(support.InRoom):
     def test_overwritten_in_place(self) -> None:
         """Other bytes in the same file change no answer either, nor what `--version` says."""
         program = open_program(str(self.program))
-        ask(program, "check", self.text)
+        ask_program(program, "check", self.text)
         with open(self.program, "r+b") as file:
             file.truncate()
             file.write(f"#!/bin/sh\n{LIE}\n".encode())
-        self.assertIn("verdict no", ask(program, "check", self.text).output)
-        self.assertRegex(identity_of(program).version or "", r"^bbmcheck \d")
+        self.assertIn("verdict no", ask_program(program, "check", self.text).output)
+        self.assertRegex(program_identity(program).version or "", r"^bbmcheck \d")
 
     def test_checker(self) -> None:
         """The API's processes get the copy from the process that opened it."""
@@ -73,21 +73,21 @@ class Replaced(support.InRoom):
         for file in files:
             Path(file).write_bytes(self.text)
         program = open_program(str(self.program))
-        checker = Checker(program, 2, None, ReceiptFolder(str(self.room / "receipts"), identity_of(program)))
-        found = [result for result in checker.results(files) if result]
+        checker = FileChecker(program, 2, None, ReceiptFolder(str(self.room / "receipts"), program_identity(program)))
+        found = [result for result in checker.check_files(files) if result]
         checker.stop()
         self.assertEqual({result.result for result in found}, {"no"})
 
     def test_studio(self) -> None:
         """The studio's verdicts are those of the program that it named at its start, also in a process that starts
         later."""
-        jobs = Jobs(str(self.program), 20.0, 4096)
+        jobs = JobQueue(str(self.program), 20.0, 4096)
         self.addCleanup(jobs.close)
         job = {"kind": "verdict", "text": self.text.decode(), "stage": "first", "earlier": ""}
         first = jobs.answer_job("a", job)
         self.assertTrue(self.was_replaced())
         self.assertNotIn("modules 77", first["report"] + jobs.answer_job("a", job)["report"])
-        jobs.worker.end()
+        jobs.worker.end_process()
         self.assertNotIn("modules 77", jobs.answer_job("a", job)["report"])
 
     def test_worker_of_a_cluster(self) -> None:
@@ -102,17 +102,17 @@ class Replaced(support.InRoom):
     def test_nobody_writes(self) -> None:
         """The copy cannot be written, by its descriptor nor by its path, and both kinds of copies can be executed."""
         data = Path(support.program()).read_bytes()
-        for make in (sealed.sealed_copy, sealed.nameless_copy):
+        for make in (sealed.sealed_copy_descriptor, sealed.nameless_copy_descriptor):
             with self.subTest(make.__name__):
                 copy = make(data)
                 self.addCleanup(os.close, copy)
                 self.assertEqual(os.pread(copy, len(data) + 1, 0), data)
                 with self.assertRaises(OSError):
                     os.write(copy, b"x")
-        copy = sealed.sealed_copy(data)
+        copy = sealed.sealed_copy_descriptor(data)
         self.addCleanup(os.close, copy)
         with self.assertRaises(OSError), open(sealed.descriptor_path(copy), "r+b", buffering=0) as file:
             file.write(b"x")
-        with mock.patch("bbmlab_core.host.sealed.memory_file", side_effect=OSError):
+        with mock.patch("bbmlab_core.host.sealed.make_memory_file_descriptor", side_effect=OSError):
             program = open_program(support.program())
-        self.assertEqual(ask(program, "check", Path(support.example("wrong_edge")).read_bytes()).status, 1)
+        self.assertEqual(ask_program(program, "check", Path(support.example("wrong_edge")).read_bytes()).status, 1)

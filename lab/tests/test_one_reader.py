@@ -6,9 +6,9 @@ from pathlib import Path
 
 import support
 from bbmlab_core.texts.skimming import design_text
-from bbmlab_core.studio.folder import bytes_of, text_of
+from bbmlab_core.studio.folder import decode_page_text, encode_page_text
 from bbmlab_core.texts.documents import read_document
-from bbmlab_core.texts.spelling import byte_order_mark_length, spelling_of, words_without_comment
+from bbmlab_core.texts.spelling import byte_order_mark_length, spell_text, words_without_comment
 from test_studio_model import node
 
 # Bytes, and characters that JavaScript or Python take for spaces, ends of lines or digits.
@@ -26,14 +26,14 @@ class OneReader(unittest.TestCase):
     def test_words_and_lines(self) -> None:
         """Each byte gives the same words in the same lines, wherever it is."""
         texts = [place.replace(b"%b", piece) for place in PLACES for piece in PIECES]
-        found, = node(["words", [text_of(text) for text in texts]])
+        found, = node(["words", [decode_page_text(text) for text in texts]])
         for text, words in zip(texts, found):
-            own = [[bytes_of(word).decode("latin-1") for word in line] for line in words]
+            own = [[encode_page_text(word).decode("latin-1") for word in line] for line in words]
             lines = text.decode("latin-1")[byte_order_mark_length(text.decode("latin-1")):].split("\n")
             self.assertEqual(own, [words for words in map(words_without_comment, lines) if words], text)
-            once = spelling_of(text.decode("latin-1")).text
+            once = spell_text(text.decode("latin-1")).text
             self.assertEqual("".join(" ".join(line) + "\n" for line in own), once, text)
-            self.assertEqual(spelling_of(once).text, once, text)
+            self.assertEqual(spell_text(once).text, once, text)
 
     def test_pictures(self) -> None:
         """What is drawn is the circuit and the layout that the program reads, whatever byte is where: as a space, in a
@@ -44,10 +44,10 @@ class OneReader(unittest.TestCase):
                    (b"\nlayout ", b"\nlayout%b"), (b"circuit\n", b"%bcircuit\n"), (b"\nend\n", b"\nend%b\n"),
                    (b" -> ", b"%b->%b")]
         texts = [good.replace(old, new.replace(b"%b", piece)) for old, new in changes for piece in PIECES]
-        found, = node(["drawn", [text_of(text) for text in texts]])
+        found, = node(["drawn", [decode_page_text(text) for text in texts]])
         yes = 0
         for text, drawn in zip(texts, found):
-            own = spelling_of(text.decode("latin-1")).text
+            own = spell_text(text.decode("latin-1")).text
             if read_document(own, "check").refusal is None:
                 yes += 1
                 self.assertEqual(drawn, design_text(own), text)
@@ -59,4 +59,4 @@ class OneReader(unittest.TestCase):
         for text in (good.replace("\n", "\r"), good.replace("\nin ", "\rin "),
                      good.replace("\nmirror ", "\x1emirror ").replace(" ", "\x1f")):
             self.assertNotEqual(text, good)
-            self.assertIsNotNone(read_document(spelling_of(text).text, "check").refusal)
+            self.assertIsNotNone(read_document(spell_text(text).text, "check").refusal)

@@ -76,7 +76,7 @@ class Ways(unittest.TestCase):
         self.assertIsNone(balls.refusal)
         with mock.patch.object(page_ways, "MAX_RUN_MOVES", 50_000):
             self.assertIsNone(page_ways.page_ways(balls))
-            self.assertIn('"ways":null', viewing.page_data(balls, None))
+            self.assertIn('"ways":null', viewing.page_data_json(balls, None))
 
     def test_levels(self) -> None:
         """The level of a wire counts the gates before it, but for sources and delays."""

@@ -52,7 +52,7 @@ def run(balls: Iterable[Cell], mirrors: Iterable[Mirror], steps: int) -> set[Cel
     layout = Layout(2 * SIDE, 2 * SIDE, steps, tuple(Box(*cell, 1, 1) for cell in solid), tuple(balls))
     whole = WholeRun(layout, {}, 1)
     assert whole.run_to(steps)
-    state = whole.field.state()
+    state = whole.field.live_cells_under()
     assert solid <= state, "a mirror changed"
     return state - solid
 

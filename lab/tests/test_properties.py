@@ -25,7 +25,7 @@ from bbmlab_core.pictures.golly import (golly_states_and_comments, golly_text, l
                                         live_cells)
 from bbmlab_core.texts.documents import read_document  # noqa: E402
 from bbmlab_core.texts.json_form import document_json_text, text_from_json  # noqa: E402
-from bbmlab_core.texts.spelling import spelling_of  # noqa: E402
+from bbmlab_core.texts.spelling import spell_text  # noqa: E402
 
 bbmlab = pr.bbmlab
 # How many times as many texts are tried: a long run sets it to 10.
@@ -120,19 +120,19 @@ class RoundTrips(unittest.TestCase):
         """`fmt` leaves a right text as it is, and gives it back from one with spaces, comments, empty lines and other
         line ends."""
         text = str(bundle)
-        self.assertEqual(spelling_of(text).text, text)
+        self.assertEqual(spell_text(text).text, text)
         noise = st.sampled_from(["", " ", "\t", "  # a comment", "\n", "\n# x\n\n"])
         end = data.draw(st.sampled_from(["\n", "\r\n"]))
         free = "".join(line.replace(" ", data.draw(st.sampled_from([" ", "  ", "\t"]))) + data.draw(noise) + end
                        for line in text.splitlines())
-        self.assertEqual(spelling_of(free).text, text)
+        self.assertEqual(spell_text(free).text, text)
 
     @TRIED
     @given(pr.damaged_texts() | st.binary(max_size=300))
     def test_spelling_ends(self, data: bytes) -> None:
         """What `fmt` wrote of any bytes, it leaves as it is."""
-        once = spelling_of(data.decode("latin-1")).text
-        self.assertEqual(spelling_of(once).text, once)
+        once = spell_text(data.decode("latin-1")).text
+        self.assertEqual(spell_text(once).text, once)
 
     @TRIED
     @given(pr.damaged_texts() | st.binary(max_size=300))

@@ -4,7 +4,7 @@ import re
 import unittest
 
 import support
-from bbmlab_core.texts.refusals import CODE_RULES, EXPLAINERS, SENTENCES, explain_refusal
+from bbmlab_core.texts.refusals import CODE_RULES, REFUSAL_EXPLAINERS, SENTENCES_BY_CAUSE, explain_refusal
 
 # What the explanation of a code is about; each is a word of docs/FORMATS.md, and not of the lab's output.
 ABOUT = {
@@ -146,8 +146,8 @@ class Refusals(unittest.TestCase):
     def test_each_cause_is_told(self) -> None:
         """Each cause of the worked cases has its words, and all words but two are used by some case."""
         used = {refusal.cause for _, _, refusal, _ in self.told}
-        self.assertLessEqual(used - {"shape"}, {*EXPLAINERS, *SENTENCES})
-        self.assertEqual({*EXPLAINERS, *SENTENCES} - used, {"keep_not_used", "border_count"})
+        self.assertLessEqual(used - {"shape"}, {*REFUSAL_EXPLAINERS, *SENTENCES_BY_CAUSE})
+        self.assertEqual({*REFUSAL_EXPLAINERS, *SENTENCES_BY_CAUSE} - used, {"keep_not_used", "border_count"})
 
 
 def place_reasons(document: support.Document, number: int) -> dict[str, bool]:

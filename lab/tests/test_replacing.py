@@ -10,12 +10,12 @@ from unittest import mock
 
 import support
 from bbmlab_core.commands import fmt
-from bbmlab_core.farm.answering import Result
+from bbmlab_core.farm.answering import CheckResult
 from bbmlab_core.farm.receipts import ReceiptFolder
 from bbmlab_core.host.releases import ProgramIdentity
 from bbmlab_core.host.terminal import LabError, write_bytes
-from bbmlab_core.studio.folder import ChangedError, Folder, digest_of
-from bbmlab_core.texts.spelling import spelling_of
+from bbmlab_core.studio.folder import Folder, StaleFileError, digest_of_bytes
+from bbmlab_core.texts.spelling import spell_text
 
 OTHER = b"# of another editor\n"
 FOR_ROOT = unittest.skipIf(os.getuid(), "only root can give files to another user")
@@ -54,7 +54,7 @@ class Meanwhile(support.InRoom):
         file = self.room / "free.txt"
         before = b"circuit\n\nend\n"
         file.write_bytes(before + OTHER)
-        spelling = spelling_of(before.decode())
+        spelling = spell_text(before.decode())
         with self.assertRaisesRegex(LabError, "another program changed it meanwhile"):
             fmt.write_in_place(str(file), spelling, before, spelling.text.encode(), False)
         self.assertEqual((file.read_bytes(), (self.room / "free.txt.new").read_bytes()),
@@ -76,8 +76,8 @@ class Meanwhile(support.InRoom):
             file.write_bytes(OTHER)
             return data
 
-        with mock.patch.object(folder, "read", read_and_change), self.assertRaises(ChangedError):
-            folder.write("design.txt", b"new\n", digest_of(b"old\n"), False)
+        with mock.patch.object(folder, "read", read_and_change), self.assertRaises(StaleFileError):
+            folder.write("design.txt", b"new\n", digest_of_bytes(b"old\n"), False)
         self.assertEqual((file.read_bytes(), self.names()), (OTHER, ["design.txt"]))
 
     def test_protected_files(self) -> None:
@@ -150,7 +150,7 @@ class Meanwhile(support.InRoom):
         for is_forced in (False, True):
             with mock.patch.object(folder, "read", read_and_link):
                 try:
-                    folder.write("design.txt", b"new\n", digest_of(b"old\n"), is_forced)
+                    folder.write("design.txt", b"new\n", digest_of_bytes(b"old\n"), is_forced)
                 except Exception as error:  # pylint: disable=broad-exception-caught  # Any of them is a refusal.
                     self.assertIn("FolderError", [kind.__name__ for kind in type(error).__mro__])
             self.assertEqual(outside.read_bytes(), b"old\n")
@@ -165,9 +165,8 @@ class Meanwhile(support.InRoom):
                 mock.patch("os.replace", lambda *names: (done.append("rename"), replace(*names))):
             write_bytes(str(self.room / "receipt.json"), b"{}")
             self.assertEqual(done, ["fsync", "rename"])
-            ReceiptFolder(str(self.room / "receipts"),
-                          ProgramIdentity("0" * 64, None)).keep(b"x\n",
-                                                                Result("x.txt", "refused", "line 1, code 1", 0.0,
-                                                                       output="refused 1 1\n"), 0.0)
+            result = CheckResult("x.txt", "refused", "line 1, code 1", 0.0, output="refused 1 1\n")
+            receipts = ReceiptFolder(str(self.room / "receipts"), ProgramIdentity("0" * 64, None))
+            receipts.store_result(b"x\n", result, 0.0)
         self.assertEqual(done, ["fsync", "rename"] * 2)
         self.assertEqual([path.name for path in (self.room / "receipts").iterdir()][0][-10:], "x.txt.json")

@@ -8,7 +8,7 @@ import random
 import unittest
 
 import support
-from bbmlab_core.circuits.netlists import NetlistError, NetlistFormat, map_netlist, netlist_format, read_netlist
+from bbmlab_core.circuits.netlists import NetlistError, NetlistFormat, guessed_netlist_format, map_netlist, read_netlist
 from bbmlab_core.texts.circuits import values_and_undefined_gate
 
 # A gate of the simulators: controls with their values, and one target, or two that change places.
@@ -220,7 +220,7 @@ class Mapped(unittest.TestCase):
                            ("qreg q[1];", NetlistFormat.QASM), (".i 1\n.o 1\n1 1\n.e\n", NetlistFormat.PLA),
                            ("aag 0 0 0 0 0\n", NetlistFormat.AIGER),
                            (".model m\n.inputs a\n", NetlistFormat.BLIF), ("circuit\ninput a\n", None)):
-            self.assertEqual(netlist_format(text), form, text)
+            self.assertEqual(guessed_netlist_format(text), form, text)
 
     def test_large_and_hostile(self) -> None:
         """Deep definitions, many calls and large numbers end soon."""

@@ -13,7 +13,7 @@ from bbmlab_core.circuits.inverting import inverse
 from bbmlab_core.circuits.simplifying import simplify
 from bbmlab_core.commands import circuits as circuit_commands
 from bbmlab_core.host.terminal import LabError
-from bbmlab_core.texts.sections import text_of_section
+from bbmlab_core.texts.sections import section_text_with_limits
 from support import circuit_of
 
 FORWARD = {"source": (0, 1), "fredkin": (3, 3), "cswap": (3, 3), "interact": (2, 4), "switch": (2, 3), "delay": (1, 1)}
@@ -125,7 +125,7 @@ class Inverse(unittest.TestCase):
         chance, kinds = random.Random(82), set[str]()
         for _ in range(120):
             text = reversible_text(chance)
-            back = text_of_section(inverse(circuit_of(text)))
+            back = section_text_with_limits(inverse(circuit_of(text)))
             self.assertEqual(names(back, "input"), names(text, "output"))
             self.assertEqual(names(back, "output"), names(text, "input"))
             self.assertEqual(len(names(back, "spill")), text.count("source"))
@@ -136,9 +136,9 @@ class Inverse(unittest.TestCase):
                 found = values_of(back, tuple(values[name] for name in names(text, "output")))
                 assert found is not None
                 self.assertEqual(tuple(found[name] for name in names(text, "input")), bits)
-            again = text_of_section(inverse(circuit_of(back)))
+            again = section_text_with_limits(inverse(circuit_of(back)))
             self.assertEqual(again, constants_first(text))
-            self.assertEqual(text_of_section(inverse(reread_circuit(inverse(circuit_of(again))))), again)
+            self.assertEqual(section_text_with_limits(inverse(reread_circuit(inverse(circuit_of(again))))), again)
             kinds |= {line.split()[0] for line in back.splitlines()}
         self.assertGreaterEqual(kinds,
                                 {"source", "fredkin", "cswap", "switch", "unswitch", "interact", "uninteract", "delay"})
@@ -200,7 +200,7 @@ class Clean(support.InRoom):
         for _ in range(100):
             text = random_text(chance, chance.randint(1, 12))
             circuit = circuit_of(text)
-            cleaned = text_of_section(clean(circuit))
+            cleaned = section_text_with_limits(clean(circuit))
             ends, kept = names(cleaned, "spill"), names(text, "output")
             self.assertEqual(names(cleaned, "output")[:len(kept)], kept)
             rows = []
@@ -256,7 +256,7 @@ class Simplify(unittest.TestCase):
         chance, before, after = random.Random(3), 0, 0
         for _ in range(150):
             text = random_text(chance, chance.randint(1, 14))
-            small = text_of_section(simplify(circuit_of(text)))
+            small = section_text_with_limits(simplify(circuit_of(text)))
             self.assertEqual(names(small, "input"), names(text, "input"))
             self.assertEqual(names(small, "output"), names(text, "output"))
             for bits in itertools.product((False, True), repeat=len(names(text, "input"))):
@@ -266,7 +266,7 @@ class Simplify(unittest.TestCase):
                                  [values[name] for name in names(text, "output")], text)
             before += sum("->" in line and "source" not in line for line in text.splitlines())
             after += sum("->" in line and "source" not in line for line in small.splitlines())
-            self.assertEqual(text_of_section(simplify(circuit_of(small))), small)
+            self.assertEqual(section_text_with_limits(simplify(circuit_of(small))), small)
         self.assertLess(after, before)
 
     def test_by_hand(self) -> None:
@@ -289,7 +289,7 @@ class Simplify(unittest.TestCase):
              ["source 1 -> k", "switch a k -> d y v"]),
         ):
             text = "\n".join(["circuit", *(f"input {name}" for name in inputs), body, "end", ""])
-            lines = text_of_section(simplify(circuit_of(text))).splitlines()
+            lines = section_text_with_limits(simplify(circuit_of(text))).splitlines()
             self.assertEqual([line for line in lines if "->" in line], left, text)
 
     def test_refused(self) -> None:

@@ -16,13 +16,13 @@ from unittest import mock
 
 import support
 from bbmlab_core.cli import main
-from bbmlab_core.host.signals import Stopped
+from bbmlab_core.host.signals import StoppedBySignal
 from bbmlab_core.physics.simulation import WholeRun, key_of
 from bbmlab_core.route import certificate, search, world
 from bbmlab_core.route.attempt import Attempt
 from bbmlab_core.route.design import used_tile_bounds
 from bbmlab_core.route.netlist import RouterNetlist
-from bbmlab_core.route.settings import Settings
+from bbmlab_core.route.settings import RouterSettings
 from bbmlab_core.route.world import Footprint
 from bbmlab_core.texts.circuits import evaluate_all
 from bbmlab_core.texts.documents import Document, read_document
@@ -163,11 +163,12 @@ class Yes(Routing):
         circuit, chance = read_document(gate_circuit("switch"), "circuit").circuit, random.Random(1)
         assert circuit
         options = search.SearchOptions()
-        routed = search.Search(circuit, gate_circuit("switch"), options, Settings(), lambda *_: None).run().routed
+        routed = search.RouterSearch(circuit, gate_circuit("switch"), options, RouterSettings(),
+                                     lambda *_: None).run().routed
         assert routed
         for _ in range(30):
             last = replace(routed, width=16 * chance.randint(3, 30), height=16 * chance.randint(3, 30))
-            plans = list(search.compact_plans(RouterNetlist(circuit), options, Settings(), last, 7))
+            plans = list(search.compact_plans(RouterNetlist(circuit), options, RouterSettings(), last, 7))
             self.assertEqual(len({plan.seed for plan in plans}), len(plans))
             for plan in plans:
                 height = plan.height or 0
@@ -175,14 +176,14 @@ class Yes(Routing):
                 self.assertLessEqual(48, height)
                 self.assertLessEqual(height, plan.side)
                 self.assertEqual(plan.side, plan.most_side)
-        plans = list(search.compact_plans(RouterNetlist(circuit), options, Settings(), routed, 7))
+        plans = list(search.compact_plans(RouterNetlist(circuit), options, RouterSettings(), routed, 7))
         self.assertEqual(len(plans), len(search.COMPACT_AREA_SHARES))
 
     def test_attempts_on_a_rectangle(self) -> None:
         """A layout of a plane that is no square lies on it."""
         circuit = read_document(gate_circuit("fredkin"), "circuit").circuit
         assert circuit
-        design = Attempt(RouterNetlist(circuit), 256, 1, Settings(), height=128).run()
+        design = Attempt(RouterNetlist(circuit), 256, 1, RouterSettings(), height=128).run()
         self.assertEqual((design.width, design.height), (256, 128))
         left, top, right, bottom = used_tile_bounds(design)
         self.assertTrue(0 <= left and 0 <= top and right <= 16 and bottom <= 8)
@@ -226,7 +227,7 @@ class Mistakes(Routing):
 
     def test_too_few_claims(self) -> None:
         """Paths claim no blocks and touch no cells, so that balls meet outside gates."""
-        right = world.path_item
+        right = world.path_footprint
 
         def wrong(*words: object) -> Footprint | None:
             item = right(*words)  # type: ignore[arg-type]
@@ -234,7 +235,7 @@ class Mistakes(Routing):
 
         with contextlib.ExitStack() as stack:
             for module in ("world", "paths", "board", "placement"):
-                stack.enter_context(mock.patch(f"bbmlab_core.route.{module}.path_item", wrong))
+                stack.enter_context(mock.patch(f"bbmlab_core.route.{module}.path_footprint", wrong))
             self.assert_found(made_circuit("forward", 12, 8, 1))
 
 
@@ -331,17 +332,18 @@ class Hostile(Routing):
         text = gate_circuit("switch")
         circuit = read_document(text, "circuit").circuit
         assert circuit
-        found = search.Search(circuit, text, search.SearchOptions(), Settings(), lambda *_: None).run().routed
+        found = search.RouterSearch(circuit, text, search.SearchOptions(), RouterSettings(),
+                                    lambda *_: None).run().routed
 
         def stopped(pool: search.AttemptPool) -> None:
             """Is interrupted after a route was found."""
             assert found
             pool.found[0] = found
-            raise Stopped(signal.SIGTERM)
+            raise StoppedBySignal(signal.SIGTERM)
 
-        with mock.patch.object(search.AttemptPool, "start", stopped):
-            outcome = search.Search(circuit, text, search.SearchOptions(jobs=2, is_compact=True), Settings(),
-                                    lambda *_: None).run()
+        with mock.patch.object(search.AttemptPool, "start_next_attempt", stopped):
+            outcome = search.RouterSearch(circuit, text, search.SearchOptions(jobs=2, is_compact=True),
+                                          RouterSettings(), lambda *_: None).run()
         self.assertTrue(outcome.is_interrupted)
         self.assertEqual((outcome.routed, outcome.interrupt_status), (found, 143))
 
@@ -393,7 +395,7 @@ class LateInputs(Routing):
         """Returns when the input b meets another ball, and when the gate that does not depend on it ends."""
         circuit = read_document(LATE, "circuit").circuit
         assert circuit
-        design = Attempt(RouterNetlist(circuit, late=late), 256, 1, Settings()).run()
+        design = Attempt(RouterNetlist(circuit, late=late), 256, 1, RouterSettings()).run()
         gate = next(gate for gate in design.gates if gate.number == 1)
         return next(path.end.time for path in design.paths if path.wire == "b"), gate.time + gate.cell.step_count
 

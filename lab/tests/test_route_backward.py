@@ -8,17 +8,17 @@ from unittest import mock
 
 import support
 from bbmlab_core.route.attempt import Attempt
-from bbmlab_core.route.balls import BOUNCE_STEPS, Ball, Leg, Turn, follow_legs, path_run, reversed_legs
+from bbmlab_core.route.balls import BOUNCE_STEPS, Ball, BounceKind, Leg, follow_legs, path_run, reversed_legs
 from bbmlab_core.route.board import Board, NoRouteError
 from bbmlab_core.route.design import time_reversed_path
 from bbmlab_core.route.ends import EndWiring
-from bbmlab_core.route.escapes import Escapes
+from bbmlab_core.route.escapes import EscapeWiring
 from bbmlab_core.route.netlist import RouterNetlist
 from bbmlab_core.route.paths import Path
-from bbmlab_core.route.ripup import WayMaker
+from bbmlab_core.route.ripup import PathRipper
 from bbmlab_core.route.search import routed_bundle
-from bbmlab_core.route.settings import Settings
-from bbmlab_core.route.world import World, path_item
+from bbmlab_core.route.settings import RouterSettings
+from bbmlab_core.route.world import RoutingGrid, path_footprint
 from support import circuit_of as read_circuit
 from test_route import LINES, circuit_text, gate_circuit
 
@@ -39,7 +39,7 @@ class BoardTests(unittest.TestCase):
 
     def assert_books(self, board: Board) -> None:
         """Asserts that the world has exactly the items of the board."""
-        world = World(board.width)
+        world = RoutingGrid(board.width)
         items = [item for step in board.steps for item in [step.gate.item,
                                                            *(path.item for path in [*step.paths, *step.parking_paths])]]
         items += [path.item for path in board.ends]
@@ -58,7 +58,7 @@ class Backward(BoardTests):
         netlist = RouterNetlist(read_circuit(text), is_backward=True)
         for index in range(8):
             try:
-                design = Attempt(netlist, 256, seed + index, Settings()).run()
+                design = Attempt(netlist, 256, seed + index, RouterSettings()).run()
                 break
             except NoRouteError:
                 continue
@@ -86,11 +86,11 @@ class Backward(BoardTests):
         chance = random.Random(5)
         done = 0
         while done < 40:
-            turns = [chance.choice(list(Turn)) for _ in range(chance.randint(0, 5))]
+            turns = [chance.choice(list(BounceKind)) for _ in range(chance.randint(0, 5))]
             legs = [Leg(chance.randint(BOUNCE_STEPS, 40), turn) for turn in [*turns, None]]
             start = Ball(400, 400, 1, 1, 0)
             end, mirrors = follow_legs(start, legs)
-            item, last = path_item(start, legs), 2 * chance.randint(200, 300) + 1
+            item, last = path_footprint(start, legs), 2 * chance.randint(200, 300) + 1
             if item is None:
                 continue
             path = time_reversed_path(Path("a", start, end, tuple(legs), item),
@@ -99,22 +99,23 @@ class Backward(BoardTests):
             self.assertEqual(set(run.states[-1]), set(start.cells()))
             self.assertEqual(set(path.start.cells()), set(end.cells()))
             self.assertEqual(follow_legs(path.start, reversed_legs(legs))[1], mirrors[::-1])
-            forward = path_item(path.start, path.legs)
-            self.assertEqual((forward.mirrors, forward.touched, forward.claims),
-                             (path.item.mirrors, path.item.touched, path.item.claims))
+            forward = path_footprint(path.start, path.legs)
+            self.assertEqual((forward.mirrors, forward.touched_cells, forward.claims),
+                             (path.item.mirrors, path.item.touched_cells, path.item.claims))
             done += 1
 
     def test_books(self) -> None:
         """After each way that was made, and after each that was not, no two items meet and the books agree."""
-        right, results = WayMaker.place_by_ripping, []
+        right, results = PathRipper.place_by_ripping, []
 
-        def checked(self: WayMaker, gate: object) -> bool:
+        def checked(self: PathRipper, gate: object) -> bool:
             results.append(right(self, gate))  # type: ignore[arg-type]
             return results[-1]
 
-        with mock.patch.object(WayMaker, "place_by_ripping", checked):
+        with mock.patch.object(PathRipper, "place_by_ripping", checked):
             for seed in range(40):
-                attempt = Attempt(RouterNetlist(read_circuit(made_circuit("forward", 14, 8, 3))), 160, seed, Settings())
+                attempt = Attempt(RouterNetlist(read_circuit(made_circuit("forward", 14, 8, 3))), 160, seed,
+                                  RouterSettings())
                 before = len(results)
                 try:
                     attempt.run(lambda placed, total: self.assert_books(attempt.board))
@@ -140,7 +141,7 @@ class Backward(BoardTests):
             made.extend([path] if path else [])
             return path
 
-        attempt = Attempt(RouterNetlist(read_circuit(made_circuit("forward", 12, 8, 1))), 384, 1, Settings())
+        attempt = Attempt(RouterNetlist(read_circuit(made_circuit("forward", 12, 8, 1))), 384, 1, RouterSettings())
         with mock.patch.object(EndWiring, "add_path_making_way", counted), \
                 mock.patch.object(EndWiring, "add_end_path", unwilling):
             attempt.run()
@@ -150,10 +151,10 @@ class Backward(BoardTests):
 
     def test_long_ways(self) -> None:
         """A ball is led on for 9,000 steps, which take more legs than the tries of a short wander."""
-        attempt = Attempt(RouterNetlist(read_circuit(circuit_text("a", "", "a"))), 1200, 1, Settings())
-        with mock.patch.object(Escapes, "add_path_to_coil", return_value=None):
+        attempt = Attempt(RouterNetlist(read_circuit(circuit_text("a", "", "a"))), 1200, 1, RouterSettings())
+        with mock.patch.object(EscapeWiring, "add_path_to_coil", return_value=None):
             path = attempt.ends.add_end_path("a", Ball(600, 600, 1, 1, 0), 9000)
         self.assertEqual((path.end.time, follow_legs(path.start, path.legs)[0]), (9000, path.end))
-        world = World(1200)
+        world = RoutingGrid(1200)
         world.add(path.item)
         self.assertEqual((world.claims, world.counts), (attempt.board.world.claims, attempt.board.world.counts))

@@ -9,13 +9,13 @@ from unittest import mock
 
 import support
 from bbmlab_core.route.attempt import Attempt
-from bbmlab_core.route.balls import Ball, Leg, Turn, follow_legs
+from bbmlab_core.route.balls import Ball, BounceKind, Leg, follow_legs
 from bbmlab_core.route.coil_ways import CoiledPath
 from bbmlab_core.route.ends import EndWiring
 from bbmlab_core.route.netlist import RouterNetlist
 from bbmlab_core.route.paths import Path
-from bbmlab_core.route.settings import OPEN_END_STEPS, Settings
-from bbmlab_core.route.world import World, path_item
+from bbmlab_core.route.settings import OPEN_END_STEPS, RouterSettings
+from bbmlab_core.route.world import RoutingGrid, path_footprint
 from test_route import circuit_text
 from test_route_backward import BoardTests, read_circuit
 
@@ -27,7 +27,7 @@ class Placed(Exception):
     """Enough gates are placed."""
 
 
-def bits_of(world: World) -> tuple[Any, ...]:
+def bits_of(world: RoutingGrid) -> tuple[Any, ...]:
     """Returns copies of the lists of bits and of the mirrors of a world."""
     return (list(world.blocked), list(world.blocked_falling), list(world.blocked_rising), list(world.mirror_falling),
             list(world.mirror_rising), set(world.mirrors))
@@ -35,7 +35,7 @@ def bits_of(world: World) -> tuple[Any, ...]:
 
 def attempt_with_gates(count: int, gates: int = 12, side: int = 384) -> Attempt:
     """Returns an attempt that has placed some gates of a circuit."""
-    attempt = Attempt(RouterNetlist(read_circuit(made_circuit("forward", gates, 8, 1))), side, 1, Settings())
+    attempt = Attempt(RouterNetlist(read_circuit(made_circuit("forward", gates, 8, 1))), side, 1, RouterSettings())
 
     def stop(placed: int, total: int) -> None:
         if placed == count:
@@ -54,20 +54,21 @@ class LaidItems(unittest.TestCase):
         they were."""
         chance, laid_items = random.Random(1), 0
         for _ in range(60):
-            added, laid = World(520), World(520)
+            added, laid = RoutingGrid(520), RoutingGrid(520)
             for _ in range(12):
                 ball = Ball(chance.randrange(160, 360), chance.randrange(160, 360), chance.choice((1, -1)),
                             chance.choice((1, -1)), 0)
-                legs = [Leg(chance.randrange(3, 40), chance.choice(list(Turn))) for _ in range(chance.randrange(3))]
-                item = path_item(ball, [*legs, Leg(chance.randrange(30), None)])
+                legs = [Leg(chance.randrange(3, 40), chance.choice(list(BounceKind)))
+                        for _ in range(chance.randrange(3))]
+                item = path_footprint(ball, [*legs, Leg(chance.randrange(30), None)])
                 if item is None or not added.can_add(item):
                     continue
                 self.assertTrue(laid.can_add(item))
                 before = bits_of(laid)
-                laid.lift(laid.lay(item))
+                laid.lift_last_laid(laid.lay_temporarily(item))
                 self.assertEqual(bits_of(laid), before)
                 added.add(item)
-                laid.lay(item)
+                laid.lay_temporarily(item)
                 laid_items += 1
                 self.assertEqual(bits_of(laid), bits_of(added))
             self.assertEqual((len(laid.claims), any(laid.counts)), (0, False))
@@ -77,7 +78,7 @@ class LaidItems(unittest.TestCase):
 class Coils(unittest.TestCase):
     """Balls that stay in coils up to the last time."""
 
-    def attempt(self, settings: Settings = Settings()) -> Attempt:
+    def attempt(self, settings: RouterSettings = RouterSettings()) -> Attempt:
         """Returns an attempt without gates."""
         return Attempt(RouterNetlist(read_circuit(circuit_text("a", "", "a"))), 640, 1, settings)
 
@@ -101,7 +102,7 @@ class Coils(unittest.TestCase):
     def test_no_coil(self) -> None:
         """A ball goes to no coil with little time, and to none if ends stay open for a join."""
         ball = Ball(300, 300, 1, 1, 100)
-        for settings, end in ((Settings(), 400), (Settings(open_end_steps=OPEN_END_STEPS), 2500)):
+        for settings, end in ((RouterSettings(), 400), (RouterSettings(open_end_steps=OPEN_END_STEPS), 2500)):
             path = self.attempt(settings).ends.add_end_path("a", ball, end)
             with self.subTest(end=end):
                 assert path is not None
@@ -119,11 +120,11 @@ class OpenGround(BoardTests):
             before = board.waiting[root].ball
             assert before is not None
             attempt.placer.blame.clear()
-            attempt.placer.blame[root] = Settings().least_blame - 1
-            self.assertFalse(attempt.free_blamed_ball())
+            attempt.placer.blame[root] = RouterSettings().least_blame - 1
+            self.assertFalse(attempt.lead_blamed_ball_away())
             attempt.placer.blame[root] += 1
             books = copy.copy(board.waiting[root])
-            if attempt.free_blamed_ball():
+            if attempt.lead_blamed_ball_away():
                 freed += 1
                 after = board.waiting[root].ball
                 assert after is not None
@@ -135,7 +136,7 @@ class OpenGround(BoardTests):
             self.assert_books(board)
         self.assertGreater(freed, 3)
         while board.steps:
-            board.take_back()
+            board.take_last_gate_back()
         self.assertEqual((len(board.world.claims), any(board.world.counts)), (0, False))
 
 
@@ -150,7 +151,7 @@ class LedAlone(BoardTests):
             return right(self, root, ball, end) if can_lead(self, root) else None
 
         with mock.patch.object(EndWiring, "add_end_path", limited), \
-                mock.patch.object(EndWiring, "end_paths_across", return_value=[]):
+                mock.patch.object(EndWiring, "end_paths_crossing_way_of", return_value=[]):
             return attempt, attempt.lead_ends_or_say_why()
 
     def test_alone(self) -> None:

@@ -13,29 +13,30 @@ import support
 from bbmlab_core.circuits.keeps import search_keeping_cone
 from bbmlab_core.route import bit_rows, search
 from bbmlab_core.route.attempt import Attempt
-from bbmlab_core.route.balls import BOUNCE_STEPS, Ball, Leg, Turn, bounce, follow_legs
-from bbmlab_core.route.bit_rows import BitJoiner
+from bbmlab_core.route.balls import BOUNCE_STEPS, Ball, BounceKind, Leg, ball_and_mirror_after_bounce, follow_legs
+from bbmlab_core.route.bit_rows import BallJoiner
 from bbmlab_core.route.board import FailureKind, NoRouteError, WaitingBall
 from bbmlab_core.route.certificate import require_keeps
 from bbmlab_core.route.design import cropped_design
 from bbmlab_core.route.netlist import RouterNetlist
 from bbmlab_core.route.placement import Inlet
-from bbmlab_core.route.settings import Settings
-from bbmlab_core.route.world import MARGIN_CELLS, World, path_item
+from bbmlab_core.route.settings import RouterSettings
+from bbmlab_core.route.world import MARGIN_CELLS, RoutingGrid, path_footprint
 from support import circuit_of as read_circuit
 from random_circuits import made_circuit
 
 SIDE = 400
 
 
-def crowded_world(chance: random.Random, count: int) -> World:
+def crowded_world(chance: random.Random, count: int) -> RoutingGrid:
     """Returns a plane with some random paths."""
-    world = World(SIDE)
+    world = RoutingGrid(SIDE)
     while count:
         dx, dy = chance.choice((1, -1)), chance.choice((1, -1))
         ball = Ball(2 * chance.randrange(40, 160) + (dx < 0), 2 * chance.randrange(40, 160) + (dy < 0), dx, dy, 0)
-        legs = [Leg(chance.randint(BOUNCE_STEPS, 30), chance.choice(list(Turn))), Leg(chance.randint(3, 20), None)]
-        item = path_item(ball, legs)
+        legs = [Leg(chance.randint(BOUNCE_STEPS, 30), chance.choice(list(BounceKind))),
+                Leg(chance.randint(3, 20), None)]
+        item = path_footprint(ball, legs)
         if item and world.can_add(item):
             world.add(item)
             count -= 1
@@ -66,13 +67,13 @@ class BitRows(unittest.TestCase):
             if start.dx * start.dy != goal.dx * goal.dy:
                 continue
             pairs += 1
-            found = list(BitJoiner(world, chance, Settings()).joining_legs(start, goal, 0, 20))
+            found = list(BallJoiner(world, chance, RouterSettings()).joining_legs(start, goal, 0, 20))
             joined += bool(found)
             for legs in found:
                 end, mirrors = follow_legs(start, legs)
                 self.assertEqual(end, goal, f"seed {seed}")
                 self.assertEqual(len(mirrors), 4)
-                self.assertTrue(all(world.can_hold(mirror) for mirror in mirrors), f"seed {seed}")
+                self.assertTrue(all(world.has_room_for_mirror(mirror) for mirror in mirrors), f"seed {seed}")
                 self.assertTrue(all(leg.steps >= BOUNCE_STEPS for leg in legs[1:]), f"seed {seed}")
         self.assertGreater(joined, pairs // 6, f"seed {seed}")
 
@@ -84,20 +85,22 @@ class BitRows(unittest.TestCase):
         for _ in range(40):
             world = crowded_world(chance, 40)
             ball, goal = random_pair(chance)
-            joiner = BitJoiner(world, chance, Settings())
+            joiner = BallJoiner(world, chance, RouterSettings())
             found = {(bend.steps, bend.turn) for bend in joiner.first_bends(ball, 0)}
-            wanted = {(steps, turn) for steps in range(joiner.most_steps_to_bounce(ball) + 1) for turn in Turn
-                      if world.can_hold(bounce(ball.flown(steps), turn)[1])}
+            wanted = {(steps, turn) for steps in range(joiner.most_steps_to_bounce(ball) + 1) for turn in BounceKind
+                      if world.has_room_for_mirror(ball_and_mirror_after_bounce(ball.after_flight(steps), turn)[1])}
             self.assertEqual(found, wanted, f"seed {seed}")
             for bend in joiner.last_bends(goal):
-                self.assertEqual(bounce(bend.ball, bend.turn)[0].flown(bend.steps), goal, f"seed {seed}")
-                self.assertTrue(world.can_hold(bounce(bend.ball, bend.turn)[1]), f"seed {seed}")
+                self.assertEqual(ball_and_mirror_after_bounce(bend.ball, bend.turn)[0].after_flight(bend.steps), goal,
+                                 f"seed {seed}")
+                self.assertTrue(world.has_room_for_mirror(ball_and_mirror_after_bounce(bend.ball, bend.turn)[1]),
+                                f"seed {seed}")
 
     def test_wrong_time_is_no_join(self) -> None:
         """Without time to spare there is no middle, and a goal that comes two steps later gets longer legs."""
-        first = bit_rows.Bend(0, Turn.FLAT, Ball(100, 101, 1, -1, 0))
-        last = bit_rows.Bend(10, Turn.FLAT, Ball(140, 160, -1, 1, 30))
-        self.assertIsNone(bit_rows.legs_between(first, last, 500))
+        first = bit_rows.Bend(0, BounceKind.FLAT, Ball(100, 101, 1, -1, 0))
+        last = bit_rows.Bend(10, BounceKind.FLAT, Ball(140, 160, -1, 1, 30))
+        self.assertIsNone(bit_rows.middle_legs_between(first, last, 500))
 
     def test_what_is_there_stays(self) -> None:
         """A plane that grew has the same rows and diagonals, and takes items beyond its old border, which were refused
@@ -106,13 +109,13 @@ class BitRows(unittest.TestCase):
         world = crowded_world(chance, 10)
         before = [world.claims.copy(), world.mirrors.copy(), world.blocked.copy(), world.mirror_falling.copy(),
                   world.blocked_rising.copy()]
-        mirror = bounce(Ball(SIDE + 20, SIDE + 20, 1, 1, 0), Turn.FLAT)[1]
-        self.assertFalse(world.can_hold(mirror))
+        mirror = ball_and_mirror_after_bounce(Ball(SIDE + 20, SIDE + 20, 1, 1, 0), BounceKind.FLAT)[1]
+        self.assertFalse(world.has_room_for_mirror(mirror))
         world.grow(64)
         self.assertEqual(before,
                          [world.claims, world.mirrors, world.blocked, world.mirror_falling, world.blocked_rising])
-        self.assertTrue(world.can_hold(mirror))
-        item = path_item(Ball(SIDE - 20, SIDE - 20, 1, 1, 0), [Leg(40, Turn.FLAT), Leg(10, None)])
+        self.assertTrue(world.has_room_for_mirror(mirror))
+        item = path_footprint(Ball(SIDE - 20, SIDE - 20, 1, 1, 0), [Leg(40, BounceKind.FLAT), Leg(10, None)])
         assert item
         world.add(item)
         world.remove(item)
@@ -123,13 +126,13 @@ class BitRows(unittest.TestCase):
         netlist = RouterNetlist(read_circuit(made_circuit("forward", 8, 6, 1)))
         grown = []
         for seed in range(3):
-            attempt = Attempt(netlist, 128, seed, Settings(), most_size=4096)
+            attempt = Attempt(netlist, 128, seed, RouterSettings(), most_size=4096)
             try:
                 attempt.run()
             except NoRouteError:
                 pass
             grown.append(attempt.board.width)
-            fixed = Attempt(netlist, 128, seed, Settings(), most_size=128)
+            fixed = Attempt(netlist, 128, seed, RouterSettings(), most_size=128)
             with self.assertRaises(NoRouteError):
                 fixed.run()
             self.assertEqual(fixed.board.width, 128)
@@ -144,9 +147,10 @@ class BitRows(unittest.TestCase):
                           *(f"delay 300 {name} -> {name}_late" for name in names),
                           *(f"output {name}_late" for name in names), "end"]) + "\n"
         for most, is_grown in ((4096, True), (160, False)):
-            attempt = Attempt(RouterNetlist(read_circuit(text)), 160, 1, Settings(), most_size=most)
+            attempt = Attempt(RouterNetlist(read_circuit(text)), 160, 1, RouterSettings(), most_size=most)
             attempt.ends.make_room_for_ends()
-            side, least = attempt.board.width, (30 * 300 * Settings().step_cells / Settings().end_fill_share) ** 0.5
+            side = attempt.board.width
+            least = (30 * 300 * RouterSettings().step_cells / RouterSettings().end_fill_share) ** 0.5
             self.assertEqual(side > 160, is_grown)
             self.assertLess(side, 1.3 * least)
             self.assertEqual(side >= least, is_grown)
@@ -154,10 +158,10 @@ class BitRows(unittest.TestCase):
     def test_gates_keep_off(self) -> None:
         """No gate is put on the way ahead of a ball that waits, but for the gate that consumes it, or behind the ball.
         """
-        attempt = Attempt(RouterNetlist(read_circuit(gate_circuit("switch"))), 400, 1, Settings())
+        attempt = Attempt(RouterNetlist(read_circuit(gate_circuit("switch"))), 400, 1, RouterSettings())
         placer, board = attempt.placer, attempt.board
         gate = attempt.netlist.gates[0]
-        cell, ball = board.netlist.cells(gate)[0], Ball(200, 200, 1, 1, 0)
+        cell, ball = board.netlist.gate_cells_for(gate)[0], Ball(200, 200, 1, 1, 0)
         board.waiting["other"] = WaitingBall(ball)
         self.assertTrue(placer.is_in_lane(cell, 230, 230, []))
         self.assertFalse(placer.is_in_lane(cell, 230, 230, [Inlet("c", "other", ball, 0)]))
@@ -187,7 +191,7 @@ class Cropping(Routing):
     def design(self, text: str, seed: int) -> "search.Design | None":
         """Returns a design on a plane of 512 by 512, or None."""
         try:
-            return Attempt(RouterNetlist(read_circuit(text)), 512, seed, Settings()).run()
+            return Attempt(RouterNetlist(read_circuit(text)), 512, seed, RouterSettings()).run()
         except NoRouteError:
             return None
 
@@ -222,7 +226,7 @@ class Words(Routing):
         text = next(text for text in (made_circuit("any", 100, 8, seed) for seed in range(1, 200))
                     if any(gate.is_inverse and search_keeping_cone(read_circuit(text), gate.number) is None
                            for gate in read_circuit(text).gates))
-        with mock.patch.object(search.Search, "run", side_effect=AssertionError("the search began")):
+        with mock.patch.object(search.RouterSearch, "run", side_effect=AssertionError("the search began")):
             status, _, said = self.route(text)
         self.assertEqual(status, 1)
         self.assertRegex(said, r"gate \d+ \((unswitch|uninteract) .*, line \d+\) cannot be kept")

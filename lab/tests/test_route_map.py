@@ -8,10 +8,10 @@ from pathlib import Path
 
 import support
 from bbmlab_core.route.board import Board
-from bbmlab_core.route.crowding import COLOURS, class_runs, crowding_of, tile_class, halved_taken_counts
+from bbmlab_core.route.crowding import TILE_CLASS_COLOURS, tile_class_runs, crowding_of, tile_class, halved_taken_counts
 from bbmlab_core.route.netlist import RouterNetlist
-from bbmlab_core.route.settings import Settings
-from bbmlab_core.route.world import ROW_STRIDE, TILE, Footprint, World
+from bbmlab_core.route.settings import RouterSettings
+from bbmlab_core.route.world import ROW_STRIDE, TILE_SIDE, Footprint, RoutingGrid
 from bbmlab_core.texts.documents import read_document
 
 sys.path.insert(0, str(support.TOP / "bench"))
@@ -20,9 +20,9 @@ from random_circuits import made_circuit  # noqa: E402
 SVG = "{http://www.w3.org/2000/svg}"
 
 
-def world_with(size: int, cells: list[tuple[int, int]]) -> World:
+def world_with(size: int, cells: list[tuple[int, int]]) -> RoutingGrid:
     """Returns a plane on which some cells are taken, some of them twice."""
-    world = World(size)
+    world = RoutingGrid(size)
     world.add(Footprint(frozenset(y * ROW_STRIDE + x for x, y in cells)))
     world.add(Footprint(frozenset(), ([y * ROW_STRIDE + x for x, y in cells[::2]],)))
     return world
@@ -36,32 +36,34 @@ class Counts(support.InRoom):
         chance = random.Random(7)
         for size in (48, 512, 4096):
             cells = [(chance.randrange(size), chance.randrange(size)) for _ in range(3000)]
-            wanted = [[0] * (size // TILE) for _ in range(size // TILE)]
+            wanted = [[0] * (size // TILE_SIDE) for _ in range(size // TILE_SIDE)]
             for x, y in set(cells):
-                wanted[y // TILE][x // TILE] += 1
+                wanted[y // TILE_SIDE][x // TILE_SIDE] += 1
             found = [list(row) for row in halved_taken_counts(world_with(size, cells))]
             self.assertEqual(found, [[count // 2 for count in row] for row in wanted])
 
     def test_full_tile(self) -> None:
         """A full tile is in the last class, an empty one in the first, and half a full one in the middle."""
-        cells = [(x, y) for x in range(TILE) for y in range(TILE)] + [(x, y) for x in range(TILE, 2 * TILE)
-                                                                      for y in range(TILE // 2)]
+        cells = [(x, y) for x in range(TILE_SIDE)
+                 for y in range(TILE_SIDE)] + [(x, y) for x in range(TILE_SIDE, 2 * TILE_SIDE)
+                                               for y in range(TILE_SIDE // 2)]
         row = next(halved_taken_counts(world_with(48, cells)))
-        self.assertEqual([tile_class(half) for half in row], [len(COLOURS) - 1, 4, 0])
+        self.assertEqual([tile_class(half) for half in row], [len(TILE_CLASS_COLOURS) - 1, 4, 0])
 
     def test_runs(self) -> None:
         """The runs of a row are its tiles in order."""
         chance = random.Random(11)
         row = bytes(chance.choice((0, 0, 1, 64, 128)) for _ in range(200))
-        spread = [kind for kind, _, count in class_runs(row) for _ in range(count)]
+        spread = [kind for kind, _, count in tile_class_runs(row) for _ in range(count)]
         self.assertEqual(spread, [tile_class(half) for half in row])
-        self.assertTrue(all(one[0] != two[0] for one, two in zip(list(class_runs(row)), list(class_runs(row))[1:])))
+        kinds = [kind for kind, _, _ in tile_class_runs(row)]
+        self.assertTrue(all(one != two for one, two in zip(kinds, kinds[1:])))
 
     def test_empty_board(self) -> None:
         """A board without gates is empty."""
         circuit = read_document(str(made_circuit("forward", 5, 4, 1)), "circuit").circuit
         assert circuit is not None
-        crowding = crowding_of(Board(RouterNetlist(circuit), 96, Settings()))
+        crowding = crowding_of(Board(RouterNetlist(circuit), 96, RouterSettings()))
         self.assertEqual((crowding.taken_share, crowding.gates), (0, ()))
 
     def route(self, *words: str) -> tuple[int, str, tree.Element | None]:

@@ -18,15 +18,15 @@ from bbmlab_core.route.attempt import Attempt, OutOfTimeError
 from bbmlab_core.route.balls import Ball, Leg
 from bbmlab_core.route.board import NoRouteError, Placement, WaitingBall
 from bbmlab_core.route.command import report_failure
-from bbmlab_core.route.design import Design
+from bbmlab_core.route.design import RoutedDesign
 from bbmlab_core.route.ends import EndWiring
 from bbmlab_core.route.netlist import RouterNetlist
 from bbmlab_core.route.partial import (PartialRoute, finishable_placement_count, partial_circuit, partial_design,
                                        circuit_section_text, placements_without_maker)
 from bbmlab_core.route.paths import Path as BallPath
-from bbmlab_core.route.search import Search, SearchOptions, SearchOutcome, routed_bundle
-from bbmlab_core.route.settings import Settings
-from bbmlab_core.route.world import path_item
+from bbmlab_core.route.search import RouterSearch, SearchOptions, SearchOutcome, routed_bundle
+from bbmlab_core.route.settings import RouterSettings
+from bbmlab_core.route.world import path_footprint
 from bbmlab_core.texts.circuits import Circuit
 from bbmlab_core.texts.documents import read_document
 from bbmlab_core.texts.gates import GATE_SIZES
@@ -40,7 +40,7 @@ from random_circuits import made_circuit  # noqa: E402
 def placed_part(text: str, side: int, seed: int, failures: int = 0) -> PartialRoute:
     """Returns what an attempt on a plane of one side placed at most."""
     circuit = read_circuit(text)
-    attempt = Attempt(RouterNetlist(circuit), side, seed, Settings(failures=failures))
+    attempt = Attempt(RouterNetlist(circuit), side, seed, RouterSettings(failures=failures))
     try:
         attempt.run()
     except NoRouteError:
@@ -48,11 +48,11 @@ def placed_part(text: str, side: int, seed: int, failures: int = 0) -> PartialRo
     return PartialRoute(circuit, attempt.best_steps, side, side)
 
 
-def slow_above(most: int) -> Callable[..., Design | str]:
+def slow_above(most: int) -> Callable[..., RoutedDesign | str]:
     """Returns a leading to the end whose time is over for more gates than some."""
     right = partial.design_or_lost_wire
 
-    def led(part: PartialRoute, steps: list[Placement], *words: Any) -> Design | str:
+    def led(part: PartialRoute, steps: list[Placement], *words: Any) -> RoutedDesign | str:
         if len(steps) > most:
             raise OutOfTimeError("the time was over")
         return right(part, steps, *words)
@@ -65,7 +65,7 @@ class Parts(support.InRoom):
 
     def assert_yes(self, part: PartialRoute, count: int) -> None:
         """Asserts that so many gates of a part are kept, with a yes."""
-        design = partial_design(part, Settings(), 60)
+        design = partial_design(part, RouterSettings(), 60)
         self.assertEqual(len(design.gates), count)
         bundle = routed_bundle(circuit_section_text(design.circuit), design).text
         ended = subprocess.run([support.program(), "check"], input=bundle.encode(), capture_output=True, check=False)
@@ -125,14 +125,14 @@ class Parts(support.InRoom):
         part = placed_part(circuit_text("ab", "switch a b -> x y z", "xyz"), 384, 1)
         step = part.placements[0]
         ball = step.outs["x"].ball
-        way = path_item(ball.flown(2), [Leg(20, None)])
+        way = path_footprint(ball.after_flight(2), [Leg(20, None)])
         assert way
-        other = BallPath("y", ball.flown(2), ball.flown(22), (Leg(20, None),), way)
+        other = BallPath("y", ball.after_flight(2), ball.after_flight(22), (Leg(20, None),), way)
         own = Placement(step.gate, step.paths, {"x": step.outs["x"]}, [*step.parking_paths, other])
-        attempt = Attempt(RouterNetlist(part.circuit), 384, 1, Settings())
+        attempt = Attempt(RouterNetlist(part.circuit), 384, 1, RouterSettings())
         self.assertEqual(attempt.adopt_placements([own]), "x")
         self.assertIsInstance(attempt.board.waiting["x"], WaitingBall)
-        again = Attempt(RouterNetlist(part.circuit), 384, 1, Settings())
+        again = Attempt(RouterNetlist(part.circuit), 384, 1, RouterSettings())
         self.assertEqual(again.adopt_placements([step]), "")
 
     def test_what_is_counted_is_kept(self) -> None:
@@ -161,7 +161,7 @@ class Parts(support.InRoom):
         circuit = read_document(text, "circuit").circuit
         assert circuit
         for keeps, count in ((True, 1), (False, 11)):
-            search = Search(circuit, text, SearchOptions(keeps_partial=keeps), Settings(), lambda *_: None)
+            search = RouterSearch(circuit, text, SearchOptions(keeps_partial=keeps), RouterSettings(), lambda *_: None)
             search.note_partial(11, [], 384)
             search.note_partial(1, placed_part(text, 384, 1).placements[:1], 384)
             self.assertEqual(search.outcome.placed, count)

@@ -4,11 +4,11 @@ import random
 import unittest
 
 import support  # noqa: F401
-from bbmlab_core.route.balls import (BOUNCE_STEPS, Ball, ExactRun, Leg, Turn, follow_legs, mirror_cells, path_run,
+from bbmlab_core.route.balls import (BOUNCE_STEPS, Ball, BounceKind, ExactRun, Leg, follow_legs, mirror_cells, path_run,
                                      run_exactly, start_state)
 from bbmlab_core.route.cells import cell_library
-from bbmlab_core.route.world import (LEAST_BULK_COUNT, ROW_STRIDE, STEP_STRIDE, Footprint, World, cell_item,
-                                     cell_number, path_item)
+from bbmlab_core.route.world import (LEAST_BULK_COUNT, ROW_STRIDE, STEP_STRIDE, Footprint, RoutingGrid, cell_number,
+                                     gate_cell_footprint, path_footprint)
 from bbmlab_core.texts.layouts import Cell
 
 # The steps of the runs that are compared.
@@ -37,12 +37,12 @@ def random_path(chance: random.Random) -> Piece | None:
     """Returns a random path, or None if it would come to its own mirrors."""
     ball, legs, left = random_ball(chance), [], LAST
     for _ in range(chance.randrange(5)):
-        legs.append(Leg(chance.randint(BOUNCE_STEPS, 12), chance.choice(list(Turn))))
+        legs.append(Leg(chance.randint(BOUNCE_STEPS, 12), chance.choice(list(BounceKind))))
         left -= legs[-1].steps
     if left < BOUNCE_STEPS:
         return None
     legs.append(Leg(left, None))
-    item = path_item(ball, legs)
+    item = path_footprint(ball, legs)
     return Piece(item, mirror_cells(follow_legs(ball, legs)[1]), [ball]) if item else None
 
 
@@ -51,19 +51,19 @@ def random_gate(chance: random.Random) -> Piece | None:
     cell = chance.choice(cell_library()[chance.choice(["switch", "interact"])])
     time = chance.randint(2, 8)
     x, y = (2 * chance.randrange(30, 60) + time % 2 for _ in range(2))
-    parts = [cell_item(cell, x, y, time)]
-    ins = [ball.moved(x, y, time) for ball in cell.ins.values()]
-    parts += [item for ball in ins for item in [path_item(ball.at(0), [Leg(ball.time, None)])] if item]
-    for ball in (own.moved(x, y, time) for own in cell.outs.values()):
-        parts += [item for item in [path_item(ball, [Leg(LAST - ball.time, None)])] if item]
-    plane = World(300)
+    parts = [gate_cell_footprint(cell, x, y, time)]
+    ins = [ball.shifted_by(x, y, time) for ball in cell.ins.values()]
+    parts += [item for ball in ins for item in [path_footprint(ball.at_time(0), [Leg(ball.time, None)])] if item]
+    for ball in (own.shifted_by(x, y, time) for own in cell.outs.values()):
+        parts += [item for item in [path_footprint(ball, [Leg(LAST - ball.time, None)])] if item]
+    plane = RoutingGrid(300)
     for part in parts:
         if not plane.can_add(part):
             return None
         plane.add(part)
     item = Footprint(parts[0].mirrors, tuple(own for part in parts for own in part.touched_parts),
                      tuple(own for part in parts for own in part.claim_parts))
-    return Piece(item, {(u + x, v + y) for u, v in cell.mirrors}, [ball.at(0) for ball in ins])
+    return Piece(item, {(u + x, v + y) for u, v in cell.mirrors}, [ball.at_time(0) for ball in ins])
 
 
 class Composition(unittest.TestCase):
@@ -86,7 +86,7 @@ class Composition(unittest.TestCase):
         seed = random.randrange(10**6)
         chance, counts, spoilt = random.Random(seed), [], 0
         for _ in range(25):
-            plane, pieces = World(300), []
+            plane, pieces = RoutingGrid(300), []
             for _ in range(40):
                 piece = random_gate(chance) if chance.random() < 0.3 else random_path(chance)
                 if piece is None:
@@ -111,10 +111,10 @@ class Claims(unittest.TestCase):
         chance, count = random.Random(seed), 0
         for _ in range(500):
             ball = random_ball(chance)
-            legs = [Leg(chance.randint(BOUNCE_STEPS, 14), chance.choice(list(Turn)))
+            legs = [Leg(chance.randint(BOUNCE_STEPS, 14), chance.choice(list(BounceKind)))
                     for _ in range(chance.randrange(7))]
             legs.append(Leg(chance.randint(BOUNCE_STEPS, 14), None))
-            item = path_item(ball, legs)
+            item = path_footprint(ball, legs)
             if item:
                 count += 1
                 run = path_run(ball, legs)
@@ -128,7 +128,7 @@ class Claims(unittest.TestCase):
     def test_add_and_remove(self) -> None:
         """A world from which all items are removed is as it was, in any order of removing."""
         chance = random.Random(5)
-        plane, items = World(300), []
+        plane, items = RoutingGrid(300), []
         while len(items) < 8:
             piece = random_path(chance)
             if piece and plane.can_add(piece.item):
@@ -146,12 +146,12 @@ class Claims(unittest.TestCase):
 
     def test_flights_are_counted_at_once(self) -> None:
         """Flights leave in a world what their cells leave one by one, also when some are removed."""
-        chance, plane, plain = random.Random(7), World(300), World(300)
+        chance, plane, plain = random.Random(7), RoutingGrid(300), RoutingGrid(300)
         items = [piece.item for piece in (random_path(chance) for _ in range(60)) if piece]
         flights = [part for item in items for part in item.touched_parts if isinstance(part, range)]
         self.assertEqual({part.step for part in flights if len(part) >= LEAST_BULK_COUNT},
                          {ROW_STRIDE + 1, ROW_STRIDE - 1, -ROW_STRIDE - 1, 1 - ROW_STRIDE})
-        for change in (World.add, World.remove):
+        for change in (RoutingGrid.add, RoutingGrid.remove):
             for item in items:
                 change(plane, item)
                 change(plain, Footprint(item.mirrors, tuple(map(list, item.touched_parts)), item.claim_parts))
@@ -164,19 +164,19 @@ class Claims(unittest.TestCase):
         """A straight flight as long as `free_steps` says fits, and one step more meets a mirror or the margin."""
         chance, met = random.Random(6), 0
         for _ in range(300):
-            plane, ball = World(300), random_ball(chance)
+            plane, ball = RoutingGrid(300), random_ball(chance)
             other = random_path(chance)
             if other is None:
                 continue
             mirrors = Footprint(other.item.mirrors)
             plane.add(mirrors)
             steps = plane.free_steps(ball, 200)
-            item = path_item(ball, [Leg(steps, None)])
-            start = path_item(ball, [Leg(1, None)])
+            item = path_footprint(ball, [Leg(steps, None)])
+            start = path_footprint(ball, [Leg(1, None)])
             assert item and start
             if not steps or not plane.can_add(start):
                 continue
-            self.assertTrue(plane.mirrors.isdisjoint(item.touched))
-            longer = path_item(ball, [Leg(steps + 3, None)])
-            met += longer is not None and not plane.mirrors.isdisjoint(longer.touched)
+            self.assertTrue(plane.mirrors.isdisjoint(item.touched_cells))
+            longer = path_footprint(ball, [Leg(steps + 3, None)])
+            met += longer is not None and not plane.mirrors.isdisjoint(longer.touched_cells)
         self.assertGreater(met, 10)

@@ -7,7 +7,7 @@ from dataclasses import replace
 
 import support
 from bbmlab_core.physics.simulation import ModuleRun, layout_run
-from bbmlab_core.physics.tracing import layout_section_lines, run_input
+from bbmlab_core.physics.tracing import bytes_for_run_command, layout_section_lines
 
 # The runs of this bundle take some seconds each; it is one of many.
 SLOW = {"bundle_bouncers_64_v1"}
@@ -17,7 +17,7 @@ def run_answer(document: support.Document) -> str:
     """Returns what `run` writes, by the lab's simulation."""
     run = layout_run(document.layout, document.on or [])
     left = None if run.run_to(document.layout.steps) else run.left[0]
-    return support.run_words(support.sorted_cells(run.field.state()), left)
+    return support.run_words(support.sorted_cells(run.field.live_cells_under()), left)
 
 
 class Simulation(unittest.TestCase):
@@ -58,8 +58,8 @@ class Simulation(unittest.TestCase):
                 document.layout = replace(document.layout, steps=most)
                 lines = layout_section_lines(document)
                 lines[0] = f"layout {document.layout.width} {document.layout.height} {document.layout.steps}"
-                ended = subprocess.run([program, "run"], input=run_input(lines, document.on), capture_output=True,
-                                       check=False)
+                ended = subprocess.run([program, "run"], input=bytes_for_run_command(lines, document.on),
+                                       capture_output=True, check=False)
                 if ended.returncode != 3:
                     with self.subTest(f"{path.name} with {document.on} up to {document.layout.steps}"):
                         self.assertEqual(run_answer(document), ended.stdout.decode())
@@ -71,5 +71,5 @@ def local_lines(document: support.Document) -> list[str]:
     for module in document.certificate.modules:
         fault = ModuleRun(document.circuit, document.layout, document.certificate, module).run_to_fault()
         if fault:
-            lines.append(f"local {module.number} {fault.report_words()}")
+            lines.append(f"local {module.number} {fault.text_in_report()}")
     return lines

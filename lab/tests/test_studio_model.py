@@ -9,13 +9,13 @@ from pathlib import Path
 from typing import Any
 
 import support
-from bbmlab_core.physics.mirrors import falling_mirrors, is_stable
+from bbmlab_core.physics.mirrors import is_stable, unstable_mirrors
 from bbmlab_core.physics.simulation import layout_run
 from bbmlab_core.studio import answers, server
 from bbmlab_core.texts import json_form
 from bbmlab_core.texts.circuits import values_and_undefined_gate
-from bbmlab_core.texts.layouts import Box, Layout, Part
-from bbmlab_core.texts.spelling import spelling_of
+from bbmlab_core.texts.layouts import Box, Layout, LayoutPart
+from bbmlab_core.texts.spelling import spell_text
 from support import text_of as example
 
 STUDIO = Path(server.__file__).resolve().parent
@@ -63,14 +63,14 @@ def random_layout(chooser: random.Random, margin: int = 6, most: int = 16) -> La
     free, parts = {(x, y) for x in range(20) for y in range(20)}, []
     for _ in range(chooser.randrange(6)):
         box = (chooser.randrange(2, 14), chooser.randrange(2, 14), chooser.randrange(1, 5), chooser.randrange(1, 5))
-        cells = set(Part("mirror", None, *box).cells())
+        cells = set(LayoutPart("mirror", None, *box).cells())
         if cells <= free:
             free -= cells
-            parts.append(Part("mirror", None, *box))
+            parts.append(LayoutPart("mirror", None, *box))
     middle = range(margin, 20 - margin)
     chosen = chooser.sample(sorted((x, y) for x, y in free if x in middle and y in middle), chooser.randrange(1, 12))
-    parts += [Part("ball", None, *cell) for cell in chosen[::2]]
-    parts += [Part("in", "pq"[x % 2], x, y) for x, y in chosen[1::2]]
+    parts += [LayoutPart("ball", None, *cell) for cell in chosen[::2]]
+    parts += [LayoutPart("in", "pq"[x % 2], x, y) for x, y in chosen[1::2]]
     return Layout(20, 20, chooser.randrange(1, most)).with_parts(parts)
 
 
@@ -121,7 +121,8 @@ class Commands(unittest.TestCase):
         """A part that is moved keeps its indentation and its comment, and a new one comes behind the last of its kind.
         """
         moved = node(["commands", COMMENTED,
-                      [["move", [8], 1, 1], ["add", [part("mirror", 5, 2, 2, 2)]], ["setSizeAndSteps", 10, 8, 3]]])[0]
+                      [["move", [8], 1, 1], ["addParts", [part("mirror", 5, 2, 2, 2)]],
+                       ["setSizeAndSteps", 10, 8, 3]]])[0]
         self.assertEqual(moved,
                          COMMENTED.replace("  mirror 1 4 2 2\t# stays\n", "  mirror 2 5 2 2\t# stays\nmirror 5 2 2 2\n")
                          .replace("layout 8 8 3 ", "layout 10 8 3 "))
@@ -131,7 +132,7 @@ class Commands(unittest.TestCase):
         head = "circuit\n# one\n# two" + example("not_gate").partition("\nlayout")[0].removeprefix("circuit")
         self.assertEqual(node(["moved", example("not_gate"), ["setCircuitText", head, "typing"], [0, 10, 12]])[0],
                          [[0, 12, 14], [0, 10, 12], [0, 12, 14]])
-        self.assertEqual(node(["moved", example("not_gate"), ["remove", [11]], [10, 11, 12]])[0],
+        self.assertEqual(node(["moved", example("not_gate"), ["removeParts", [11]], [10, 11, 12]])[0],
                          [[10, 11], [10, 12], [10, 11]])
         self.assertEqual(node(["moved", example("not_gate"), ["move", [10], 2, 0], [10, 12]])[0],
                          [[10, 12], [10, 12], [10, 12]])
@@ -198,14 +199,15 @@ class Commands(unittest.TestCase):
     def test_reasons(self) -> None:
         """What cannot be done says why, and changes nothing."""
         text = example("not_gate")
-        for command, reason in ((["add", [part("mirror", 7, 6, 2, 2)]], "Cell (7, 7) is taken by the ball at (7, 7)."),
-                                (["add", [part("mirror", 11, 2, 2, 2)]],
+        for command, reason in ((["addParts", [part("mirror", 7, 6, 2, 2)]],
+                                 "Cell (7, 7) is taken by the ball at (7, 7)."),
+                                (["addParts", [part("mirror", 11, 2, 2, 2)]],
                                  "mirror at (11, 2) is outside the layout of 12 by 12 cells."),
-                                (["add", [part("out", 7, 4, name="b")]],
+                                (["addParts", [part("out", 7, 4, name="b")]],
                                  "Cell (7, 4) is taken by the waste at (7, 4)."),
-                                (["add", [part("ball", 2, 2), part("ball", 2, 2)]],
+                                (["addParts", [part("ball", 2, 2), part("ball", 2, 2)]],
                                  "Two of the parts take cell (2, 2)."),
-                                (["add", [part("in", 2, 2, name="1x")]], "`1x` is no name of a wire."),
+                                (["addParts", [part("in", 2, 2, name="1x")]], "`1x` is no name of a wire."),
                                 (["setSizeAndSteps", 6, 6, 3],
                                  "ball at (7, 7) would be outside the layout of 6 by 6 cells."),
                                 (["setSizeAndSteps", 13, 12, 3], "Width and height are even numbers from 2 to 512."),
@@ -222,7 +224,7 @@ class Commands(unittest.TestCase):
     def test_freely_written_words(self) -> None:
         """Arrows without spaces and leading zeros are read as the lab reads them."""
         free = "circuit\nsource 1->k\noutput k\nend\nlayout 08 08 00\nmirror 3 04 2 2\nball 02 02\nout k 02 5\nend\n"
-        layout = support.read_document(spelling_of(free).text, "design").layout
+        layout = support.read_document(spell_text(free).text, "design").layout
         self.assertEqual(node(["parts", free])[0],
                          {"size": [layout.width, layout.height, layout.steps], "isWhole": True,
                           "parts": sorted([part.kind, part.x, part.y] for part in layout.parts)})
@@ -278,7 +280,8 @@ class Runs(unittest.TestCase):
             for state in told["states"]:
                 run = layout_run(document.layout, state["on"])
                 run.run_to(document.layout.steps)
-                self.assertEqual({tuple(cell) for cell in state["live"]}, set(run.field.state()), (name, state["on"]))
+                self.assertEqual({tuple(cell) for cell in state["live"]}, set(run.field.live_cells_under()),
+                                 (name, state["on"]))
 
     def test_random_layouts(self) -> None:
         """So it is for random layouts of many balls, with mirrors that fall apart and balls that lie still, as long as
@@ -290,7 +293,8 @@ class Runs(unittest.TestCase):
             for state in told["states"] if told["leftAt"] is None else []:
                 run = layout_run(layout, state["on"])
                 run.run_to(layout.steps)
-                self.assertEqual({tuple(cell) for cell in state["live"]}, set(run.field.state()), text_of(layout))
+                self.assertEqual({tuple(cell) for cell in state["live"]}, set(run.field.live_cells_under()),
+                                 text_of(layout))
                 count += 1
         self.assertGreater(count, 200)
 
@@ -318,7 +322,7 @@ class Runs(unittest.TestCase):
                 run, values = layout_run(document.layout, on), values_and_undefined_gate(document.circuit, on)[0]
                 run.run_to(document.layout.steps)
                 for output in row["outputs"]:
-                    states = {port.cell in run.field.state() for port in document.layout.of_kind("out")
+                    states = {port.cell in run.field.live_cells_under() for port in document.layout.of_kind("out")
                               if port.name == output["name"]}
                     found = states.pop() if len(states) == 1 else None
                     self.assertEqual((output["wanted"], output["found"]), (values[output["name"]], found),
@@ -336,7 +340,7 @@ class Runs(unittest.TestCase):
         for path in sorted(support.EXAMPLES.glob("*.txt")):
             document = support.read_document(path.read_text(encoding="latin-1"))
             if document.circuit and not document.refusal:
-                wanted = json.loads(json.dumps(json_form.circuit_json(document.circuit)))
+                wanted = json.loads(json.dumps(json_form.circuit_members(document.circuit)))
                 told = node(["circuit",
                              path.read_text(encoding="latin-1").split("\nlayout ")[0].split("\nassign")[0]])[0]
                 self.assertEqual((told.pop("isWhole"), told), (True, wanted), path.name)
@@ -351,16 +355,16 @@ class Runs(unittest.TestCase):
                     for _ in range(count)]
                    for count in (1, 2, 3, 5) for _ in range(150)]
         wanted = [[[mirror.mirror.x, mirror.mirror.y, mirror.mirror.width, mirror.mirror.height] for mirror in
-                   falling_mirrors(Layout(20, 20, 3, tuple(Box(*box) for box in boxes)))]
+                   unstable_mirrors(Layout(20, 20, 3, tuple(Box(*box) for box in boxes)))]
                   for boxes in layouts]
-        self.assertEqual(node(*[["fallen", boxes] for boxes in layouts]), wanted)
+        self.assertEqual(node(*[["unstable", boxes] for boxes in layouts]), wanted)
         self.assertGreater(sum(map(len, wanted)), 100)
 
     def test_snapped_mirrors_stay(self) -> None:
         """Each snapped mirror stays, lies in the layout, holds the cells that were dragged or is one cell away."""
         boxes = [[x, y, w, h] for x in range(0, 9) for y in range(0, 9) for w in range(1, 5) for h in range(1, 5)]
         for (x, y, w, h), box in zip(boxes, node(["snapped", boxes, 12, 12])[0]):
-            self.assertTrue(is_stable(Part("mirror", None, *box)), box)
+            self.assertTrue(is_stable(LayoutPart("mirror", None, *box)), box)
             self.assertTrue(box[0] >= 0 and box[1] >= 0 and box[0] + box[2] <= 12 and box[1] + box[3] <= 12)
             self.assertLessEqual(abs(box[0] - x) + abs(box[1] - y), 1)
             self.assertEqual((box[2], box[3]), (w + w % 2, h + h % 2))
@@ -381,7 +385,7 @@ class Sources(unittest.TestCase):
         for told in node(*[["random", example("machine_fredkin"), cells("not", "turn_left"), seed + 31, 100, False]
                            for seed in range(3)]):
             for text in [*told["texts"], told["last"]]:
-                self.assertEqual(spelling_of(text).text, text)
+                self.assertEqual(spell_text(text).text, text)
 
     def test_the_page_has_no_script_of_its_own(self) -> None:
         """The page has no script of its own."""

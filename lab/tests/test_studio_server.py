@@ -17,12 +17,12 @@ from typing import Any
 import support
 from bbmlab_core.studio import routes
 from test_connecting import two_nots
-from bbmlab_core.studio.answers import BLANK_BUNDLE_TEXT, Answers
+from bbmlab_core.studio.answers import BLANK_DESIGN_TEXT, Answers
 from bbmlab_core.studio.folder import Folder
 from bbmlab_core.studio.guard import MAX_REQUEST_BYTES
-from bbmlab_core.studio.jobs import Jobs, JobWorker
-from bbmlab_core.studio.server import POLICY, Studio, studio_server
-from bbmlab_core.texts.skimming import cuts_of
+from bbmlab_core.studio.jobs import JobQueue, JobWorker
+from bbmlab_core.studio.server import CONTENT_SECURITY_POLICY, StudioServer, studio_server
+from bbmlab_core.texts.skimming import cuts_by_module
 from bbmlab_core.texts.spelling import source_line_number
 from support import processes, text_of, wait_for
 
@@ -34,7 +34,7 @@ SLEEP = f"sleep 987653.{os.getpid()}"
 class Served(support.InRoom):
     """A server of a folder of its own, in a thread."""
 
-    jobs: Jobs | None = None
+    jobs: JobQueue | None = None
 
     def setUp(self) -> None:
         """Starts the server."""
@@ -43,7 +43,7 @@ class Served(support.InRoom):
         self.room = self.outside / "designs"
         self.room.mkdir()
         (self.room / "gate.txt").write_bytes(Path(support.example("not_gate")).read_bytes())
-        self.server: Studio = studio_server(0, Answers(Folder(str(self.room / "gate.txt")), self.jobs))
+        self.server: StudioServer = studio_server(0, Answers(Folder(str(self.room / "gate.txt")), self.jobs))
         thread = threading.Thread(target=self.server.serve_forever, kwargs={"poll_interval": 0.05})
         thread.start()
         self.addCleanup(thread.join)
@@ -186,12 +186,12 @@ class Security(Served):
         for method, path, key in (("GET", "", ""), ("GET", "studio/model.js", ""),
                                   ("POST", "api/files", self.server.guard.key), ("POST", "api/files", "wrong")):
             _, headers, _ = self.send(method, path, b"{}", X_Bbmlab_Key=key)
-            self.assertEqual(headers["Content-Security-Policy"], POLICY)
+            self.assertEqual(headers["Content-Security-Policy"], CONTENT_SECURITY_POLICY)
             self.assertEqual((headers["X-Content-Type-Options"], headers["Referrer-Policy"]),
                              ("nosniff", "no-referrer"))
             self.assertNotIn("Access-Control-Allow-Origin", headers)
-        self.assertNotIn("unsafe", POLICY)
-        self.assertIn("default-src 'none'; script-src 'self';", POLICY)
+        self.assertNotIn("unsafe", CONTENT_SECURITY_POLICY)
+        self.assertIn("default-src 'none'; script-src 'self';", CONTENT_SECURITY_POLICY)
 
     def test_no_file_of_the_page_is_elsewhere(self) -> None:
         """Paths that lead out of the page's files are not found."""
@@ -250,11 +250,11 @@ class Files(Served):
     def test_a_new_file(self) -> None:
         """A file that is missing is an empty layout, and is written only if it is still missing."""
         opened = self.ask("open", name="new.txt")
-        self.assertEqual((opened["text"], opened["digest"]), (BLANK_BUNDLE_TEXT, None))
+        self.assertEqual((opened["text"], opened["digest"]), (BLANK_DESIGN_TEXT, None))
         (self.room / "new.txt").write_text("there\n")
-        self.assertTrue(self.ask("save", name="new.txt", text=BLANK_BUNDLE_TEXT, digest=None)["changed"])
+        self.assertTrue(self.ask("save", name="new.txt", text=BLANK_DESIGN_TEXT, digest=None)["changed"])
         (self.room / "new.txt").unlink()
-        self.assertIn("digest", self.ask("save", name="new.txt", text=BLANK_BUNDLE_TEXT, digest=None))
+        self.assertIn("digest", self.ask("save", name="new.txt", text=BLANK_DESIGN_TEXT, digest=None))
         self.assertEqual(sorted(path.name for path in self.room.iterdir()), ["gate.txt", "new.txt"])
 
     def test_refusals(self) -> None:
@@ -278,7 +278,7 @@ class Files(Served):
         """New texts are an empty layout, standard cells and examples; other names are none."""
         start = self.ask("start")
         self.assertEqual(start["text"], text_of("not_gate"))
-        self.assertEqual(self.ask("template", name="empty")["text"], BLANK_BUNDLE_TEXT)
+        self.assertEqual(self.ask("template", name="empty")["text"], BLANK_DESIGN_TEXT)
         self.assertIn("layout 44 44 37", self.ask("template", name="not")["text"])
         self.assertIn("fredkin_gate", start["examples"])
         self.assertEqual(self.ask("template", name="example not_gate")["text"], start["text"])
@@ -293,7 +293,7 @@ class Verdicts(Served):
     @classmethod
     def setUpClass(cls) -> None:
         """Finds the program."""
-        cls.jobs = Jobs(support.program(), 20.0, MEMORY)
+        cls.jobs = JobQueue(support.program(), 20.0, MEMORY)
 
     @classmethod
     def tearDownClass(cls) -> None:
@@ -345,7 +345,7 @@ class Verdicts(Served):
             text = text_of(name)
             document = support.read_document(text, "check")
             wanted = [list(module.cuts) for module in document.certificate.modules] if document.certificate else []
-            self.assertEqual(cuts_of(text), wanted, name)
+            self.assertEqual(cuts_by_module(text), wanted, name)
 
     def test_fixes(self) -> None:
         """A no comes with words and a fix, and the program says yes to the text after it."""
@@ -494,8 +494,8 @@ class Limits(support.InRoom):
 
     def test_time_limit(self) -> None:
         """A program that does not end is killed."""
-        jobs = Jobs(self.fake(f"exec sleep 987654.{os.getpid()}"), 0.5, MEMORY)
-        told = jobs.answer_job("a", {"kind": "verdict", "text": BLANK_BUNDLE_TEXT})
+        jobs = JobQueue(self.fake(f"exec sleep 987654.{os.getpid()}"), 0.5, MEMORY)
+        told = jobs.answer_job("a", {"kind": "verdict", "text": BLANK_DESIGN_TEXT})
         jobs.close()
         self.assertEqual((told["verdict"], told["words"]),
                          ("unknown", ["The program gave no answer within 0.5 seconds."]))
@@ -505,11 +505,11 @@ class Limits(support.InRoom):
         """A newer job of a tab ends its older one with its program; a job of another tab waits, so at most one program
         runs."""
         mark = self.fake(f"exec {SLEEP}")
-        jobs, answers = Jobs(mark, 600, MEMORY), []
+        jobs, answers = JobQueue(mark, 600, MEMORY), []
         first = threading.Thread(target=lambda: answers.append(jobs.answer_job("a", {"kind": "verdict",
-                                                                                     "text": BLANK_BUNDLE_TEXT})))
+                                                                                     "text": BLANK_DESIGN_TEXT})))
         other = threading.Thread(target=lambda: answers.append(jobs.answer_job("b", {"kind": "verdict",
-                                                                                     "text": BLANK_BUNDLE_TEXT})))
+                                                                                     "text": BLANK_DESIGN_TEXT})))
         first.start()
         wait_for(lambda: processes().count(SLEEP) == 1)
         other.start()
@@ -530,11 +530,11 @@ class Limits(support.InRoom):
         """The process of the jobs and the program run under a memory limit, and one that needs more gets no verdict."""
         worker = JobWorker(self.fake("exit 0"), 5, 1024)
         self.addCleanup(worker.close_pipes)
-        self.addCleanup(worker.end)
-        worker.answer({"kind": "verdict", "text": BLANK_BUNDLE_TEXT}, 60)
+        self.addCleanup(worker.end_process)
+        worker.answer({"kind": "verdict", "text": BLANK_DESIGN_TEXT}, 60)
         self.assertEqual(resource.prlimit(worker.process.pid, resource.RLIMIT_AS), (1024 * 2 ** 20, 1024 * 2 ** 20))
-        jobs = Jobs(self.fake(f"exec {sys.executable} -c 'x = bytes(3 << 30)'"), 20, 2048)
-        told = jobs.answer_job("a", {"kind": "verdict", "text": BLANK_BUNDLE_TEXT})
+        jobs = JobQueue(self.fake(f"exec {sys.executable} -c 'x = bytes(3 << 30)'"), 20, 2048)
+        told = jobs.answer_job("a", {"kind": "verdict", "text": BLANK_DESIGN_TEXT})
         jobs.close()
         self.assertEqual(told["verdict"], "unknown")
         self.assertIn("There is no verdict", told["words"][0])

@@ -13,9 +13,9 @@ from pathlib import Path
 from unittest import mock
 
 import support
-from bbmlab_core.explain.diagnosis import Diagnosis, Tristate
+from bbmlab_core.explain.diagnosis import DiagnosticRuns, Tristate
 from bbmlab_core.host.program import BadProgramError, Executable, RunningPrograms, open_program
-from bbmlab_core.studio.jobs import Jobs
+from bbmlab_core.studio.jobs import JobQueue
 from support import processes, wait_for
 
 LAB = support.BBMLAB[1]
@@ -158,7 +158,7 @@ class Programs(Room):
                       ["explain", wrong], ["explain", "--fix", wrong]):
             ended = self.assert_ends(4, *words, "--program", program)
             self.assertNotIn("says yes", ended.stderr)
-        jobs = Jobs(program, 20.0, 4096)
+        jobs = JobQueue(program, 20.0, 4096)
         self.addCleanup(jobs.close)
         told = jobs.answer_job("a", {"kind": "verdict", "text": support.text_of("not_gate"), "stage": "first",
                                      "earlier": ""})
@@ -176,8 +176,8 @@ class Programs(Room):
 
     def test_crashed_worker(self) -> None:
         """A process of the studio that a signal ended is told as such, and as no limit. The next one answers."""
-        jobs = Jobs(self.program(f"[ -e '{self.room}/once' ] || {{ touch '{self.room}/once'; kill -9 $PPID; }}\nexec "
-                                 "\"$real\" \"$@\""), 20.0, 4096)
+        jobs = JobQueue(self.program(f"[ -e '{self.room}/once' ] || {{ touch '{self.room}/once'; kill -9 $PPID; }}\n"
+                                     "exec \"$real\" \"$@\""), 20.0, 4096)
         self.addCleanup(jobs.close)
         job = {"kind": "verdict", "text": support.text_of("not_gate"), "stage": "first", "earlier": ""}
         self.assertEqual(jobs.answer_job("a", job),
@@ -186,8 +186,8 @@ class Programs(Room):
 
     def test_hard_memory_limit(self) -> None:
         """Under a hard limit of the address space, below what the studio takes by itself, there are verdicts."""
-        script = ("import sys; sys.path.insert(0, sys.argv[1]); from bbmlab_core.studio.jobs import Jobs; jobs = "
-                  "Jobs(sys.argv[2], 20.0, 4096);"
+        script = ("import sys; sys.path.insert(0, sys.argv[1]); from bbmlab_core.studio.jobs import JobQueue; jobs "
+                  "= JobQueue(sys.argv[2], 20.0, 4096);"
                   "print(jobs.answer_job('a', {'kind': 'verdict', 'text': open(sys.argv[3]).read(), 'stage': 'first', "
                   "'earlier': ''}).get('verdict')); jobs.close()")
         limit = 2 << 30
@@ -307,12 +307,12 @@ class Words(Room):
         self.assertNotIn("fault is in the certificate", ended.stdout)
         self.assertRegex(" ".join(ended.stdout.split()), r"the cell \(\d+, 0\) of the rim is live at time 1\. .* no "
                          r"certificate gets a yes before the layout is changed")
-        outcome = Diagnosis(support.read_document(text, "check")).whole_outcome
+        outcome = DiagnosticRuns(support.read_document(text, "check")).whole_run_outcome
         self.assertEqual((outcome.correctness, outcome.is_rim_fault), (Tristate.NO, True))
         for name, wanted in (("gate_and_mirror", Tristate.YES), ("not_gate", None)):
             document = support.read_document(support.text_of(name), "check")
             if document.certificate and not document.refusal:
-                self.assertEqual(Diagnosis(document).whole_outcome.correctness, wanted, name)
+                self.assertEqual(DiagnosticRuns(document).whole_run_outcome.correctness, wanted, name)
 
     def test_table_of_a_netlist(self) -> None:
         """A `$lut` whose table has another number of bits than its inputs make is refused by its name."""

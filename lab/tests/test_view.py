@@ -18,7 +18,7 @@ def state_at(document: support.Document, on: list[str], time: int) -> list[list[
     """Returns the live cells at a time by the lab's run."""
     run = layout_run(document.layout, on)
     run.run_to(time)
-    return sorted_cells(run.field.state())
+    return sorted_cells(run.field.live_cells_under())
 
 
 class Page(support.InRoom):
@@ -62,7 +62,7 @@ class Page(support.InRoom):
                     states = []
                     for time in times:
                         run.run_to(time)
-                        states.append([time, sorted_cells(run.field.state(assignment))])
+                        states.append([time, sorted_cells(run.field.live_cells_under(assignment))])
                     wanted.append(states)
         self.assertEqual([told["states"] for told in node(jobs)], wanted)
 

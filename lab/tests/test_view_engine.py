@@ -8,7 +8,7 @@ import unittest
 from typing import Any
 
 import support
-from bbmlab_core.host.program import ask
+from bbmlab_core.host.program import ask_program
 from bbmlab_core.physics import tracing
 from bbmlab_core.texts.documents import Document
 
@@ -51,8 +51,8 @@ class Engine(unittest.TestCase):
             names, steps = tracing.input_names(document.layout), document.layout.steps
             for share in (0.0, 0.5, 1.0):
                 on = [wire for wire in names if chooser.random() < share]
-                asked.append((name, on, ask(program, "run", tracing.run_input(tracing.layout_section_lines(document),
-                                                                              on)).output))
+                text = tracing.bytes_for_run_command(tracing.layout_section_lines(document), on)
+                asked.append((name, on, ask_program(program, "run", text).output))
                 jobs.append(job(document, on,
                                 [chooser.randrange(steps + 1), steps, chooser.randrange(steps + 1), 0, steps]))
         self.assertGreater(len(jobs), 30)
@@ -78,7 +78,8 @@ class Engine(unittest.TestCase):
         """512 by 512 cells and 65,536 steps with 1,024 balls: all steps and far jumps end in time, and are the
         program's."""
         document, program = large_layout(), support.program()
-        output = ask(program, "run", tracing.run_input(tracing.layout_section_lines(document), [])).output
+        text = tracing.bytes_for_run_command(tracing.layout_section_lines(document), [])
+        output = ask_program(program, "run", text).output
         last = 65536
         began = time.monotonic()
         told = node([job(document, [], [last, last // 2, 3, last])])[0]

@@ -9,7 +9,7 @@ from typing import Any
 import support
 from bbmlab_core.physics import tracing
 from bbmlab_core.physics.simulation import block_of, cell_of, key_of
-from bbmlab_core.pictures.label_places import NameToPlace, Rect, place_names
+from bbmlab_core.pictures.label_places import NameToPlace, Rect, choose_name_places
 from bbmlab_core.pictures.ways import block_moves
 from bbmlab_core.texts.documents import Document
 from bbmlab_core.view import viewing
@@ -48,7 +48,7 @@ class Address(unittest.TestCase):
         """Each part comes back, and all of them together."""
         states = [{}, {"time": 7}, {"on": []}, {"on": ["p"]}, {"zoom": [2.5, 10, -3.25]}, {"fault": 2},
                   {"trails": False}, {"time": 30, "on": ["p", "q"], "zoom": [80, 0, 512], "fault": 1, "trails": False}]
-        written = node([["hashText", state] for state in states])
+        written = node([["addressFragment", state] for state in states])
         self.assertEqual(node([["read", f"#{text}", LIMITS] for text in written]), states)
 
     def test_a_hostile_address(self) -> None:
@@ -73,7 +73,7 @@ class Address(unittest.TestCase):
         for _ in range(20):
             cells = [Rect(12 * chooser.randrange(20), 12 * chooser.randrange(20), 12, 12) for _ in range(40)]
             names = [NameToPlace(cell, chooser.randrange(10, 70), 8, chooser.random() < 0.5) for cell in cells[:20]]
-            found = place_names(names, cells[20:30], cells[30:])
+            found = choose_name_places(names, cells[20:30], cells[30:])
             wanted.append([[place.box.x, place.box.y, place.lines_away] for place in found])
             jobs.append(["places",
                          [{"cell": vars(name.cell_rect), "width": name.width, "height": name.height,

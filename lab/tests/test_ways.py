@@ -9,11 +9,11 @@ from pathlib import Path
 
 import support
 from bbmlab_core.commands.draw import boxes_with_gates, picture_of
-from bbmlab_core.physics.simulation import DIAGONAL_STRIDE, ROW_STRIDE, Table, WholeRun, block_of, cell_of
+from bbmlab_core.physics.simulation import DIAGONAL_STRIDE, ROW_STRIDE, TruthTable, WholeRun, block_of, cell_of
 from bbmlab_core.pictures import drawing
 from bbmlab_core.pictures.picture_parts import (OTHER_WIRES_LABEL, PictureOptions, chevrons, cone_of, piece_within,
-                                                with_others_grouped)
-from bbmlab_core.pictures.ways import Piece, WayRun, block_moves, directed_ways, joined_pieces, ways_of
+                                                ways_with_others_grouped)
+from bbmlab_core.pictures.ways import Piece, WayRun, block_moves, directed_ways, joined_pieces, ways_by_table
 from bbmlab_core.texts.designs import read_layout_file
 from bbmlab_core.texts.documents import Document, read_document
 from bbmlab_core.texts.layouts import Box, Cell
@@ -30,11 +30,11 @@ def steps_of(pieces: list[Piece]) -> set[Step]:
     return found
 
 
-def moves_by_rule(document: Document, tables: dict[str, Table], full: Table) -> dict[Table, set[Step]]:
+def moves_by_rule(document: Document, tables: dict[str, TruthTable], full: TruthTable) -> dict[TruthTable, set[Step]]:
     """Returns the steps of the balls from the lab's run, one block after another, by the assignments under which they
     are made."""
     layout = document.layout
-    run, found = WholeRun(layout, tables, full), dict[Table, set[Step]]()
+    run, found = WholeRun(layout, tables, full), dict[TruthTable, set[Step]]()
     for _ in range(layout.steps):
         live, is_odd = run.field.live, run.time % 2
         looked = {block_of(key, is_odd) for key in run.field.changed | run.field.changed_before}
@@ -97,7 +97,7 @@ class Ways(unittest.TestCase):
         wanted = moves_by_rule(document, tables, full)
         run = WholeRun(layout, tables, full)
         until = layout.steps if run.run_to(layout.steps) else run.time - 1
-        found = {table: steps_of(pieces) for table, pieces in ways_of(layout, tables, full, until).items()}
+        found = {table: steps_of(pieces) for table, pieces in ways_by_table(layout, tables, full, until).items()}
         self.assertEqual(found, wanted)
         return sum(map(len, wanted.values()))
 
@@ -137,7 +137,7 @@ class Ways(unittest.TestCase):
             with self.subTest(seed=seed, text=text):
                 document = read_document(text)
                 assert document.layout
-                self.assertTrue(WayRun(document.layout, {}, 1).is_firm)
+                self.assertTrue(WayRun(document.layout, {}, 1).is_ball_proof)
                 self.assert_same(document)
 
     def test_a_flight_is_one_move(self) -> None:
@@ -184,7 +184,7 @@ class Ways(unittest.TestCase):
         document = read_document("layout 24 24 30\nmirror 2 1 2 2\nmirror 12 9 2 2\nball 4 2\nend\n")
         assert document.layout
         tables, full, _ = drawing.wire_tables_and_column(document, [])
-        plain, directed = (of(document.layout, tables, full, 30) for of in (ways_of, directed_ways))
+        plain, directed = (of(document.layout, tables, full, 30) for of in (ways_by_table, directed_ways))
         self.assertEqual({table: steps_of([(min(piece), max(piece)) for piece in pieces]) for table,
                           pieces in directed.items()},
                          {table: steps_of(pieces) for table, pieces in plain.items()})
@@ -266,7 +266,7 @@ class Large(support.InRoom):
         for count, words in ((drawing.MAX_PORT_NAMES, False), (drawing.MAX_PORT_NAMES + 1, True)):
             layout = read_document("\n".join(["layout 512 512 0", *lines[:count], "end"]) + "\n").layout
             assert layout
-            picture = drawing.svg(layout, drawing.Drawing(title="all"), [])
+            picture = drawing.layout_svg(layout, drawing.Drawing(title="all"), [])
             self.assertEqual(f"; the names of {count} ports are left out" in picture, words)
             self.assertEqual('class="name"' in picture, not words)
 
@@ -276,7 +276,7 @@ class Large(support.InRoom):
         assert layout
         for size, radius in ((0.0, "24.0"), (10.0, "60.0")):
             self.assertIn(f'class="ball" cx="7236" cy="7236" r="{radius}"',
-                          drawing.svg(layout, drawing.Drawing(live={(600, 600)}, least_ball_size=size), []))
+                          drawing.layout_svg(layout, drawing.Drawing(live={(600, 600)}, least_ball_size=size), []))
 
     def test_small_pictures_show_modules(self) -> None:
         """A small layout has the borders of its modules, and no outlined gates."""
@@ -315,7 +315,7 @@ class Chosen(support.Case):
     def test_wires_are_brought_out(self) -> None:
         """The ways of a wire, or of an equal one, keep their colour, and all others are faint."""
         ways = {"a": [((0, 0), (3, 3))], "b": [((5, 0), (8, 3))], "": [((9, 9), (8, 8))]}
-        found = with_others_grouped(ways, {"a": "a, c"}, {"c"})
+        found = ways_with_others_grouped(ways, {"a": "a, c"}, {"c"})
         self.assertEqual(found, {"a": ways["a"], OTHER_WIRES_LABEL: ways["b"] + ways[""]})
         picture = picture_of(read_layout_file(support.example("full_adder")), None, None, None,
                              PictureOptions(wires=("a",)))

@@ -12,18 +12,18 @@ from typing import Iterable
 from ..circuits.cones import few_cuts_and_uses, cone_for_inverse_gate
 from ..host.processor import processor_seconds
 from ..host.terminal import LabError
-from ..physics.simulation import Fault, ModuleRun, Table, cell_of, key_of, keys_of
+from ..physics.simulation import Fault, ModuleRun, TruthTable, cell_of, key_of, keys_of_box
 from ..texts.certificates import (MAX_BOX_SIDE, MAX_BORDER_LINES, MAX_CUTS, MAX_USES, Border, Certificate, Module,
-                                  ModuleDraft, Stop, certificate_line_text)
+                                  ModuleDraft, Stop, border_or_stop_text)
 from ..texts.circuits import Circuit, Gate
 from ..texts.documents import Document, pause_garbage_collection
 from ..texts.layouts import Box, Cell, Layout, row_order_key
-from ..texts.limits import SECOND_LIMITS, limits_for, text_without_limits_line, with_limits_line
+from ..texts.limits import SECOND_LIMITS, smallest_fitting_limits, text_with_limits_line, text_without_limits_line
 from .observing import Observer, ring_and_halo_keys
 
 # How many steps back from the wires of a box to the gates that make them are tried, before all gates back to the
 # inputs.
-MAX_GATES_BACK = 4
+MAX_GATE_LEVELS_BACK = 4
 
 
 class ImpossibleModuleError(Exception):
@@ -87,7 +87,7 @@ class CertificateMaker:
         if self.plan.version == 2:
             for module in modules:
                 module.halos = []
-        return Certificate(self.plan.version, tuple(module.module() for module in modules))
+        return Certificate(self.plan.version, tuple(module.finished_module() for module in modules))
 
     def modules_covering(self, box: Box) -> list[ModuleDraft]:
         """Returns the modules of a rectangle: itself, or those of its parts.
@@ -147,7 +147,7 @@ class CertificateMaker:
         lines = Box(box.x + place - 1, box.y, 2, box.height) if is_upright else Box(box.x, box.y + place - 1, box.width,
                                                                                     2)
         return all(self.observer.wires_carried_by(key) is not None for key in self.observer.observed.timed_tables.keys()
-                   & keys_of(lines))
+                   & keys_of_box(lines))
 
     def why_not_split(self, box: Box) -> str:
         """Says why a rectangle can't be cut."""
@@ -172,13 +172,13 @@ class CertificateMaker:
         if len(module.edges) + max(len(module.halos), len(module.stops)) > MAX_BORDER_LINES:
             raise ImpossibleModuleError(f"the box {box.numbers_text} takes more than {MAX_BORDER_LINES} lines")
         needed = {line.signal for line in (*module.edges, *module.halos)} - {"1"}
-        inside = keys_of(box)
+        inside = keys_of_box(box)
         needed |= {self.ports[key] for key in self.ports.keys() & inside} | {stop.name for stop in module.stops}
         fault = None
         for wiring in self.possible_cuts_and_uses(box, needed, inside, halo):
             if wiring.is_within_limits():
                 module.cuts, module.uses = wiring.cuts, wiring.uses
-                fault = self.fault_of(module.module()) if self.plan.runs_modules else None
+                fault = self.fault_of(module.finished_module()) if self.plan.runs_modules else None
                 if fault is None:
                     return module
         if fault is None:
@@ -210,7 +210,7 @@ class CertificateMaker:
         if self.plan.cut_kind != "safe":
             seen: set[tuple[str, ...]] = set()
             incoming = self.incoming_wires(box, needed, inside, halo)
-            for depth in range(MAX_GATES_BACK + 1):
+            for depth in range(MAX_GATE_LEVELS_BACK + 1):
                 for wiring in self.incoming_cuts_and_uses(needed, incoming):
                     if tuple(wiring.cuts) not in seen:
                         seen.add(tuple(wiring.cuts))
@@ -273,7 +273,7 @@ class CertificateMaker:
                   for stop in self.user_stops_with_wrong_delay(gate)]
         if not wrong:
             return self.plan.stops
-        line = certificate_line_text("stop", wrong[0])
+        line = border_or_stop_text("stop", wrong[0])
         self.notes.append(f"the old stops are left out: `{line}` does not hold in the layout")
         return self.delay_stops()
 
@@ -314,7 +314,7 @@ class CertificateMaker:
                 stops.setdefault(wire, Stop(time, wire, *cell))
         return sorted(stops.values(), key=lambda stop: stop.order_key)
 
-    def cell_carrying(self, wire: str, live: dict[int, Table]) -> Cell | None:
+    def cell_carrying(self, wire: str, live: dict[int, TruthTable]) -> Cell | None:
         """Returns a cell that carries a wire, an `out` cell of it first."""
         outs = {port.cell for port in self.layout.outs if port.name == wire}
         table = self.observer.values.tables[wire]
@@ -354,12 +354,12 @@ def make_certified_text(document: Document, boxes: list[Box] | None, plan: Certi
     if notes is not None:
         notes += maker.notes
     head = text_without_limits_line(document.text).split("\nend\n", 2)
-    limits = limits_for(max(layout.width, layout.height), layout.steps, len(certificate.modules), len(circuit.gates),
-                        len(circuit.wires))
-    return with_limits_line(f"{head[0]}\nend\n{head[1]}\nend\n{certificate}", limits)
+    limits = smallest_fitting_limits(max(layout.width, layout.height), layout.steps, len(certificate.modules),
+                                     len(circuit.gates), len(circuit.wires))
+    return text_with_limits_line(f"{head[0]}\nend\n{head[1]}\nend\n{certificate}", limits)
 
 
-def legal_grid_boxes(layout: Layout, width: int, height: int) -> list[Box]:
+def checked_grid_boxes(layout: Layout, width: int, height: int) -> list[Box]:
     """Returns the boxes of a grid whose sides are allowed."""
     if any(side % 2 or not 2 <= side <= MAX_BOX_SIDE for side in (width, height)):
         raise LabError(f"a box of {width} by {height} cells: its sides are even numbers from 2 to {MAX_BOX_SIDE}", 2)

@@ -6,7 +6,7 @@ from dataclasses import dataclass, field
 
 from ..host.processor import processor_seconds
 from ..host.terminal import LabError
-from ..physics.simulation import Table, WholeRun, cell_of, key_of, lowest_bit
+from ..physics.simulation import TruthTable, WholeRun, cell_of, key_of, least_assignment
 from ..texts.circuits import Circuit, evaluate_all_or_samples
 from ..texts.layouts import Box, Cell, Layout, row_order_key
 from ..texts.refusals import names_words
@@ -28,9 +28,9 @@ class ObservedCells:
     """
 
     always_live: set[int] = field(default_factory=set)
-    timed_tables: dict[int, list[tuple[int, Table]]] = field(default_factory=dict)
+    timed_tables: dict[int, list[tuple[int, TruthTable]]] = field(default_factory=dict)
     # The cells that are not live always, at each time, if they are remembered.
-    moving_by_time: list[dict[int, Table]] = field(default_factory=list)
+    moving_by_time: list[dict[int, TruthTable]] = field(default_factory=list)
 
 
 class Observer:
@@ -43,8 +43,8 @@ class Observer:
         # Whether the cells are remembered at each time, for stops.
         self.remembers = remembers or any(gate.kind == "delay" for gate in circuit.gates)
         self.values = evaluate_all_or_samples(circuit, MAX_EXHAUSTIVE_INPUTS, SAMPLE_COUNT)
-        self.require_rows()
-        self.signals: dict[Table, str] = {}
+        self.require_row_at_all_inputs()
+        self.signals: dict[TruthTable, str] = {}
         for name, table in self.values.tables.items():
             self.signals.setdefault(table, name)
         self.signals[self.values.full] = "1"
@@ -61,14 +61,14 @@ class Observer:
             return ""
         first = self.signals[self.values.tables[hidden[0]]]
         return (f". {len(hidden)} of {len(self.values.tables)} wires have the values of an earlier one "
-                f"{self.values.choices_words}, as `{hidden[0]}` has those of "
+                f"{self.values.tried_choices_words}, as `{hidden[0]}` has those of "
                 f"`{first}`, and the lab gives cells the earlier name, so a box may lack the wires that its gate takes")
 
-    def require_rows(self) -> None:
+    def require_row_at_all_inputs(self) -> None:
         """Raises LabError if some gate has no row under a choice of the inputs."""
         for number, table in self.values.defined_columns_by_gate.items():
             if table != self.values.full:
-                on = self.values.true_free_wires(lowest_bit(self.values.full ^ table))
+                on = self.values.true_free_wires(least_assignment(self.values.full ^ table))
                 raise LabError(f"gate {number} has no row with {names_words(on) or 'none of the inputs'} on: no "
                                "certificate gets a yes", 1)
 
@@ -94,13 +94,14 @@ class Observer:
             if self.until is not None and processor_seconds() > self.until:
                 raise LabError("no certificate was found in the time that was given", 1)
             if not run.step():
-                on = values.true_free_wires(lowest_bit(run.left[1])) if run.left else []
+                on = values.true_free_wires(least_assignment(run.left[1])) if run.left else []
                 raise LabError(f"step {run.time} leaves the rectangle with {names_words(on) or 'none of the inputs'} on"
                                ": no certificate gets a yes", 1)
             for key in run.field.changed:
-                self.note_change(observed, moving, key, run.field.live.get(key, 0), run.time)
+                self.note_cell_change(observed, moving, key, run.field.live.get(key, 0), run.time)
 
-    def note_change(self, observed: ObservedCells, moving: dict[int, Table], key: int, table: Table, time: int) -> None:
+    def note_cell_change(self, observed: ObservedCells, moving: dict[int, TruthTable], key: int, table: TruthTable,
+                         time: int) -> None:
         """Notes a cell that changed in the last step. One that was live always gets its times before."""
         if key in observed.always_live:
             observed.always_live.discard(key)
@@ -144,7 +145,7 @@ class Observer:
         """Says when a cell carries no wire."""
         time, y, x = self.first_moment_without_wire(key)
         table = dict(self.observed.timed_tables[key])[time]
-        on = names_words(self.values.true_free_wires(lowest_bit(table))) or "none of the inputs"
+        on = names_words(self.values.true_free_wires(least_assignment(table))) or "none of the inputs"
         return (f"at time {time} the cell ({x}, {y}) is live with {on} on, and no wire of the circuit is true in just "
                 "the cases in which it is live")
 
@@ -161,15 +162,15 @@ class Observer:
 
 def ring_and_halo_keys(layout: Layout, box: Box) -> tuple[list[int], list[int]]:
     """Returns the cells of a box's ring, and those of its halo that lie in the rectangle, as numbers."""
-    def around(left: int, top: int, right: int, bottom: int) -> set[Cell]:
+    def outermost_cells(left: int, top: int, right: int, bottom: int) -> set[Cell]:
         """Returns the outermost cells of a rectangle that lie in the layout."""
         cells = {(x, y) for x in range(left, right + 1) for y in (top, bottom)} | {(x, y)
                                                                                    for y in range(top, bottom + 1)
                                                                                    for x in (left, right)}
         return {cell for cell in cells if layout.has(cell)}
 
-    ring = around(box.x, box.y, box.x + box.width - 1, box.y + box.height - 1)
-    halo = around(box.x - 1, box.y - 1, box.x + box.width, box.y + box.height)
+    ring = outermost_cells(box.x, box.y, box.x + box.width - 1, box.y + box.height - 1)
+    halo = outermost_cells(box.x - 1, box.y - 1, box.x + box.width, box.y + box.height)
     return [key_of(cell) for cell in sorted(ring, key=row_order_key)], [key_of(cell)
                                                                         for cell in sorted(halo, key=row_order_key)]
 

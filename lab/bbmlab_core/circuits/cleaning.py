@@ -8,7 +8,7 @@ outputs. What is left are the inputs, and the constants.
 from ..texts.circuits import Circuit, Gate
 from .cones import cone_for_inverse_gate
 from .gate_lines import reread_circuit, constant_gate
-from .inverting import INVERSES, require_rows
+from .inverting import INVERSES, require_row_at_all_inputs
 from .netlists.naming import MAX_NAME_BYTES, NameBook
 
 # So many gates at most are undone by inverse gates, each of which is searched for a cone that keeps it. Fredkin gates
@@ -17,7 +17,7 @@ MAX_CONE_SEARCHES = 1000
 REPLACEABLE_KINDS = ("switch", "interact")
 
 
-class Cleaner:
+class GarbageFreeMaker:
     """Makes the circuit without garbage.
 
     `separate` are the gates that Fredkin gates replace, since no cone keeps the inverse of theirs.
@@ -44,7 +44,7 @@ class Cleaner:
         own = {name: self.fresh_name(name, "_own") for name in copied}
         first = [(gate.number, line) for gate in self.circuit.gates for line in self.forward_gates_of(gate.number, own)]
         self.gates = [line for _, line in first]
-        complements = [self.add_copy(own[name], name) for name in copied]
+        complements = [self.add_copy_and_complement(own[name], name) for name in copied]
         for number, line in reversed(first):
             self.add_undoing_gate(number, line)
         ends = [*self.circuit.inputs, *(line.outs[0] for _, line in first if line.kind == "source")]
@@ -67,7 +67,7 @@ class Cleaner:
         return [constant_gate(0, zero), Gate("fredkin", (*ins, zero), (control, both, outs[1])),
                 constant_gate(0, other), Gate("fredkin", (both, control, other), (outs[0], outs[3], outs[2]))]
 
-    def add_copy(self, wire: str, name: str) -> str:
+    def add_copy_and_complement(self, wire: str, name: str) -> str:
         """Adds the copy of a wire, which gets the name of the output, and returns the name of its complement."""
         one = self.fresh_name("one", "")
         passed, complement = (self.fresh_name(name, ending) for ending in ("_read", "_not"))
@@ -98,11 +98,11 @@ def clean(circuit: Circuit) -> Circuit:
     A cone keeps each inverse gate of the second half. Raises LabError if the circuit has no values at some inputs, or
     becomes too large.
     """
-    require_rows(circuit, "the circuit")
+    require_row_at_all_inputs(circuit, "the circuit")
     replaceable = frozenset(gate.number for gate in circuit.gates if gate.kind in REPLACEABLE_KINDS)
     separate = replaceable if len(replaceable) > MAX_CONE_SEARCHES else frozenset[int]()
     while True:
-        cleaner = Cleaner(circuit, separate)
+        cleaner = GarbageFreeMaker(circuit, separate)
         lines = cleaner.run()
         result = reread_circuit(lines)
         failed = {number for place, number in cleaner.undone.items()

@@ -5,7 +5,7 @@ from ..texts.circuits import Circuit, Gate
 from ..texts.documents import read_document
 from ..texts.gates import GATE_SIZES
 from ..texts.refusals import refusal_words
-from ..texts.sections import text_of_section
+from ..texts.sections import section_text_with_limits
 
 
 def constant_gate(bit: int, name: str) -> Gate:
@@ -15,7 +15,7 @@ def constant_gate(bit: int, name: str) -> Gate:
 
 def reread_circuit(circuit: Circuit) -> Circuit:
     """Returns a circuit as the lab's reader has it. Raises LabError if it is larger than a circuit section can be."""
-    document = read_document(text_of_section(circuit), "circuit")
+    document = read_document(section_text_with_limits(circuit), "circuit")
     if document.refusal is not None or document.circuit is None:
         raise LabError("the new circuit is refused: "
                        f"{refusal_words(document, None) if document.refusal else 'it is missing'}", 1)

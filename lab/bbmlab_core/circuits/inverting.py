@@ -14,7 +14,7 @@ INVERSES = {"fredkin": "fredkin", "cswap": "cswap", "delay": "delay", "switch": 
             "interact": "uninteract", "uninteract": "interact"}
 
 
-def values_of(circuit: Circuit) -> WireTables:
+def wire_values_of(circuit: Circuit) -> WireTables:
     """Returns the values of a circuit's wires, in all choices of up to 16 inputs, or in samples."""
     return evaluate_all_or_samples(circuit, MAX_EXHAUSTIVE_INPUTS, SAMPLE_COUNT)
 
@@ -41,8 +41,8 @@ def inverse(circuit: Circuit) -> Circuit:
     Raises LabError with the reason if a row would lack: at some inputs the inverse would have no values, or a constant
     would not come back.
     """
-    require_rows(circuit, "the circuit")
-    values = values_of(circuit)
+    require_row_at_all_inputs(circuit, "the circuit")
+    values = wire_values_of(circuit)
     gates = []
     for name in circuit.spills:
         bit = bit_if_constant(values, name)
@@ -59,7 +59,7 @@ def inverse(circuit: Circuit) -> Circuit:
     return back
 
 
-def require_rows(circuit: Circuit, what: str) -> None:
+def require_row_at_all_inputs(circuit: Circuit, what: str) -> None:
     """Raises LabError if an inverse gate of a circuit has no row at some inputs."""
     why = first_missing_row_words(circuit)
     if why is not None:
@@ -68,8 +68,8 @@ def require_rows(circuit: Circuit, what: str) -> None:
 
 def require_constants_returned(circuit: Circuit, back: Circuit) -> None:
     """Raises LabError if the inverse has no values at some inputs, or does not give each constant back."""
-    require_rows(back, "the inverse")
-    values = values_of(back)
+    require_row_at_all_inputs(back, "the inverse")
+    values = wire_values_of(back)
     for gate in circuit.gates:
         if gate.kind != "source":
             continue

@@ -9,7 +9,7 @@ import random
 from typing import Iterable, Iterator
 
 from ..texts.certificates import MAX_CUTS, MAX_USES
-from ..texts.circuits import Circuit, evaluate_gates, evaluate_under
+from ..texts.circuits import Circuit, evaluate_gates, evaluate_under_tables
 from .cones import few_cuts_and_uses, cone_for_inverse_gate
 
 # The assignments that are sampled, the sets of gates of one size that are looked at further, and the gates that are run
@@ -69,8 +69,8 @@ class KeepSearch:
         the others have theirs."""
         self.runs += len(gates)
         full, order = (1 << SAMPLE_COUNT) - 1, sorted(gates)
-        rows = evaluate_under(self.circuit, {wire: self.samples[wire] for wire in self.wires_into(gates)}, full,
-                              order).defined_columns_by_gate
+        rows = evaluate_under_tables(self.circuit, {wire: self.samples[wire] for wire in self.wires_into(gates)}, full,
+                                     order).defined_columns_by_gate
         return ((rows[order[-2]] if len(order) > 1 else full) & ~rows[self.number]).bit_count()
 
     def cone_if_valid(self, gates: GateSet) -> Cone | None:
@@ -156,7 +156,7 @@ class KeepSearch:
         unit for each wire)."""
         flow: set[str] = set()
         while True:
-            reached, wire = self.gates_with_spare_flow(core, flow)
+            reached, wire = self.reachable_gates_and_input(core, flow)
             if wire is None:
                 return self.with_constant_gates(frozenset(reached))
             number = self.consumer[wire]
@@ -165,7 +165,7 @@ class KeepSearch:
                 number, own = reached[number]
                 flow ^= {own}
 
-    def gates_with_spare_flow(self, core: GateSet, flow: set[str]) -> tuple[dict[int, tuple[int, str]], str | None]:
+    def reachable_gates_and_input(self, core: GateSet, flow: set[str]) -> tuple[dict[int, tuple[int, str]], str | None]:
         """Returns the gates from which more can flow to a core, each with the next gate and the wire to it, and an
         input from which it can."""
         reached, todo = {number: (number, "") for number in core}, sorted(core)

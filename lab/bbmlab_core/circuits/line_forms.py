@@ -102,13 +102,13 @@ def qasm_text(circuit: Circuit) -> str:
     network = LineNetwork(circuit)
     book = NameBook()
     book.taken.update(QASM_KEYWORDS)
-    def fresh(name: str) -> str:
+    def fresh_qubit_name(name: str) -> str:
         """Returns a new name that is no reserved word."""
         return book.fresh_name(f"{name}_" if name in QASM_KEYWORDS else name)
 
-    qubits = {line: fresh(line) for line in circuit.inputs}
-    bits = {line: fresh(name) for line, name in network.ends.items()}
-    qubits.update((line, fresh(line)) for line in network.constants)
+    qubits = {line: fresh_qubit_name(line) for line in circuit.inputs}
+    bits = {line: fresh_qubit_name(name) for line, name in network.ends.items()}
+    qubits.update((line, fresh_qubit_name(line)) for line in network.constants)
     words = {(0, 1): "x", (1, 1): "cx", (2, 1): "ccx", (1, 2): "cswap"}
     rows = ["OPENQASM 3.0;", 'include "stdgates.inc";', *(f"qubit {name};" for name in qubits.values()),
             *(f"bit {name};" for name in bits.values())]

@@ -5,7 +5,7 @@ A circuit of up to 12 inputs is evaluated under all of them, a larger one under 
 take minutes to fail.
 """
 
-from ..physics.simulation import lowest_bit
+from ..physics.simulation import least_assignment
 from ..texts.circuits import Circuit, Gate, WireTables, evaluate_all_or_samples
 
 MAX_EXHAUSTIVE_INPUTS = 12
@@ -26,7 +26,7 @@ def first_missing_row_words(circuit: Circuit) -> str | None:
     for gate in circuit.gates:
         missing = before & ~values.defined_columns_by_gate[gate.number]
         if missing:
-            return missing_row_words(values, gate, lowest_bit(missing))
+            return missing_row_words(values, gate, least_assignment(missing))
         before = values.defined_columns_by_gate[gate.number]
     return None
 

@@ -7,8 +7,8 @@ Each wire gets a literal, by the rules of `netlists.graph`: wires with one liter
 from ..texts.circuits import Circuit, Gate
 from .cones import cone_for_inverse_gate
 from .gate_lines import outputs_without_control, reread_circuit
-from .inverting import require_rows
-from .netlists.graph import FALSE, TRUE, Graph, Literal
+from .inverting import require_row_at_all_inputs
+from .netlists.graph import FALSE, TRUE, LogicGraph, NodeLiteral
 
 # The most passes, each of which makes the circuit smaller, and the most inverse gates that are searched for a cone.
 MAX_PASSES = 200
@@ -21,8 +21,8 @@ class SimplifyingPass:
 
     def __init__(self, lines: Circuit) -> None:
         self.before = lines
-        self.graph = Graph(list(lines.inputs))
-        self.literals: dict[str, Literal] = {name: 2 * at + 2 for at, name in enumerate(lines.inputs)}
+        self.graph = LogicGraph(list(lines.inputs))
+        self.literals: dict[str, NodeLiteral] = {name: 2 * at + 2 for at, name in enumerate(lines.inputs)}
         self.gates: list[Gate | None] = []
         # Wires that became another wire, the place of the gate that makes a wire, and wires that nothing uses.
         self.became: dict[str, str] = {}
@@ -55,7 +55,7 @@ class SimplifyingPass:
         """Replaces outputs of a gate that is left out by inputs with their values."""
         self.became.update(zip(outs, ins))
 
-    def make_constants(self, bit: int, *outs: str) -> None:
+    def add_constant_gates(self, bit: int, *outs: str) -> None:
         """Makes outputs constants."""
         for name in outs:
             self.add_gate("source", bit, [], (name,))
@@ -67,7 +67,7 @@ class SimplifyingPass:
         found = self.gate_output_literals(word, parameter, [self.literals[name] for name in ins])
         self.literals.update(zip(outs, found))
 
-    def gate_output_literals(self, word: str, parameter: int | None, ins: list[Literal]) -> list[Literal]:
+    def gate_output_literals(self, word: str, parameter: int | None, ins: list[NodeLiteral]) -> list[NodeLiteral]:
         """Returns the literals of a gate's outputs."""
         graph = self.graph
         if word == "source":
@@ -111,39 +111,39 @@ class SimplifyingPass:
             return False
         return True
 
-    def try_fold_switch(self, outs: list[str], ins: list[str], known: list[Literal]) -> bool:
+    def try_fold_switch(self, outs: list[str], ins: list[str], known: list[NodeLiteral]) -> bool:
         """Replaces a switch whose control or input is constant, or which are alike or opposite."""
         control, other = known
         if control == TRUE or other == control:
             self.replace_outputs(outs[:2], ins)
-            self.make_constants(0, outs[2])
+            self.add_constant_gates(0, outs[2])
         elif control == FALSE or other in (FALSE, control ^ 1):
             self.replace_outputs([outs[0], outs[2]], ins)
-            self.make_constants(0, outs[1])
+            self.add_constant_gates(0, outs[1])
         else:
             return False
         return True
 
-    def try_fold_interact(self, outs: list[str], ins: list[str], known: list[Literal]) -> bool:
+    def try_fold_interact(self, outs: list[str], ins: list[str], known: list[NodeLiteral]) -> bool:
         """Replaces an interaction of which one input is constant, or whose inputs are alike or opposite."""
         one, other = known
         if FALSE in known or one == other ^ 1:
             self.replace_outputs([outs[2], outs[1]], ins)
-            self.make_constants(0, outs[0], outs[3])
+            self.add_constant_gates(0, outs[0], outs[3])
         elif one == other:
             self.replace_outputs([outs[0], outs[3]], ins)
-            self.make_constants(0, outs[1], outs[2])
+            self.add_constant_gates(0, outs[1], outs[2])
         elif one == TRUE:
             self.add_gate("switch", None, ins[::-1], (outs[0], outs[3], outs[2]))
-            self.make_constants(0, outs[1])
+            self.add_constant_gates(0, outs[1])
         elif other == TRUE:
             self.add_gate("switch", None, ins, (outs[0], outs[3], outs[1]))
-            self.make_constants(0, outs[2])
+            self.add_constant_gates(0, outs[2])
         else:
             return False
         return True
 
-    def try_fold_fredkin(self, outs: list[str], ins: list[str], known: list[Literal]) -> bool:
+    def try_fold_fredkin(self, outs: list[str], ins: list[str], known: list[NodeLiteral]) -> bool:
         """Replaces a Fredkin gate with a constant control or inputs that are alike, and makes it a switch if one of
         these is 0."""
         control, high, low = known
@@ -175,8 +175,8 @@ class SimplifyingPass:
         if control and self.literals[now[0]] | 1 != self.literals[ins[0]] | 1:
             return False
         is_opposite = control and self.literals[now[0]] != self.literals[ins[0]]
-        found = order_of_returned_inputs(before.kind, gate.kind, parts == wires[control:],
-                                         parts[::-1] == wires[control:], is_opposite)
+        found = are_inputs_returned_in_order(before.kind, gate.kind, parts == wires[control:],
+                                             parts[::-1] == wires[control:], is_opposite)
         if found is None:
             return False
         back = now[control:] if found else now[control:][::-1]
@@ -188,7 +188,8 @@ class SimplifyingPass:
         return True
 
 
-def order_of_returned_inputs(first: str, second: str, is_same: bool, is_turned: bool, is_opposite: bool) -> bool | None:
+def are_inputs_returned_in_order(first: str, second: str, is_same: bool, is_turned: bool,
+                                 is_opposite: bool) -> bool | None:
     """Returns whether a gate gives the inputs of an earlier one back in their order, False if in the other one, and
     None if it does not.
 
@@ -210,12 +211,12 @@ def with_output_names(lines: Circuit, wanted: tuple[str, ...]) -> Circuit:
     delays = [Gate("delay", (found,), (name,), 1) for found,
               name in zip(lines.outputs, wanted) if found != name and found in lines.inputs]
 
-    def names(old: tuple[str, ...]) -> tuple[str, ...]:
+    def new_names_of(old: tuple[str, ...]) -> tuple[str, ...]:
         """Returns the new names of some wires."""
         return tuple(renamed.get(name, name) for name in old)
 
-    gates = [Gate(gate.kind, names(gate.ins), names(gate.outs), gate.parameter) for gate in lines.gates]
-    return Circuit(lines.inputs, (*gates, *delays), wanted, names(lines.spills))
+    gates = [Gate(gate.kind, new_names_of(gate.ins), new_names_of(gate.outs), gate.parameter) for gate in lines.gates]
+    return Circuit(lines.inputs, (*gates, *delays), wanted, new_names_of(lines.spills))
 
 
 def without_dead_gates(lines: Circuit) -> Circuit:
@@ -234,15 +235,16 @@ def without_dead_gates(lines: Circuit) -> Circuit:
         spare.update(freed)
         order += freed
 
-    def wire(name: str) -> str:
+    def replacement_of(name: str) -> str:
         """Returns what a wire became."""
         while name in became:
             name = became[name]
         return name
 
-    gates = [Gate(gate.kind, tuple(map(wire, gate.ins)), gate.outs, gate.parameter) for gate in reversed(kept)]
+    gates = [Gate(gate.kind, tuple(map(replacement_of, gate.ins)), gate.outs, gate.parameter)
+             for gate in reversed(kept)]
     spills = tuple(name for name in dict.fromkeys(order) if name in spare)
-    outputs = tuple(map(wire, lines.outputs))
+    outputs = tuple(map(replacement_of, lines.outputs))
     return with_output_names(Circuit(lines.inputs, tuple(gates), outputs, spills), lines.outputs)
 
 
@@ -255,7 +257,7 @@ def with_shared_garbage(lines: Circuit) -> Circuit:
         literals.update(zip(gate.outs, folder.gate_output_literals(gate.kind, gate.parameter, ins)))
     born = {name: at for at, gate in enumerate(lines.gates) for name in gate.outs}
     taker = {name: at for at, gate in enumerate(lines.gates) for name in gate.ins}
-    pool: dict[Literal, list[str]] = {}
+    pool: dict[NodeLiteral, list[str]] = {}
     for name in spare:
         pool.setdefault(literals[name], []).append(name)
     swaps: dict[str, str] = {}
@@ -284,12 +286,12 @@ def with_exchanged_uses(lines: Circuit, swaps: dict[str, str]) -> Circuit:
     pairs = {found: name for found, name in zip(outputs, lines.outputs) if found != name}
     names = {**pairs, **{name: found for found, name in pairs.items()}}
 
-    def named(old: tuple[str, ...]) -> tuple[str, ...]:
+    def new_names_of(old: tuple[str, ...]) -> tuple[str, ...]:
         """Returns wires under their new names."""
         return tuple(names.get(name, name) for name in old)
 
-    gates = [Gate(gate.kind, named(gate.ins), named(gate.outs), gate.parameter) for gate in gates]
-    return Circuit(lines.inputs, tuple(gates), lines.outputs, named(tuple(spills)))
+    gates = [Gate(gate.kind, new_names_of(gate.ins), new_names_of(gate.outs), gate.parameter) for gate in gates]
+    return Circuit(lines.inputs, tuple(gates), lines.outputs, new_names_of(tuple(spills)))
 
 
 def keepable_inverse_count(circuit: Circuit) -> int:
@@ -317,7 +319,7 @@ def simplify(circuit: Circuit) -> Circuit:
 
     Raises LabError if the circuit has no values at some inputs.
     """
-    require_rows(circuit, "the circuit")
+    require_row_at_all_inputs(circuit, "the circuit")
     lines = circuit
     for may_share in (True, False):
         found = simplified_by_passes(lines, may_share)

@@ -6,7 +6,8 @@ from collections import Counter
 from typing import Iterator
 
 from ..host.terminal import LabError
-from ..texts.circuits import Circuit, WireTables, evaluate_all_or_samples, evaluate_under, values_and_undefined_gate
+from ..texts.circuits import (Circuit, WireTables, evaluate_all_or_samples, evaluate_under_tables,
+                              values_and_undefined_gate)
 from ..texts.documents import Document
 
 # Up to so many inputs a table has all rows, and two circuits are compared in all.
@@ -51,7 +52,7 @@ def inputs_on_by_row(circuit: Circuit, on: list[str] | None) -> list[set[str]]:
     return [{name for at, name in enumerate(inputs) if number >> (last - at) & 1} for number in range(1 << len(inputs))]
 
 
-def depth(circuit: Circuit) -> int:
+def circuit_depth(circuit: Circuit) -> int:
     """Returns the most gates on a way from an input or a constant to an output. A source and a delay count as none."""
     depths: dict[str, int] = {}
     for gate in circuit.gates:
@@ -76,7 +77,7 @@ def circuit_figures(circuit: Circuit) -> list[tuple[str, str]]:
             ("constants", str(kinds["source"])),
             ("garbage", str(len(circuit.spills))), ("gates", str(len(circuit.gates) - kinds["source"])),
             *((f"  {word}", str(kinds[word])) for word in sorted(kinds) if word != "source"),
-            ("depth", str(depth(circuit))), ("width", str(peak_wire_count(circuit)))]
+            ("depth", str(circuit_depth(circuit))), ("width", str(peak_wire_count(circuit)))]
 
 
 def document_figures(document: Document) -> list[tuple[str, str]]:
@@ -94,12 +95,12 @@ def document_figures(document: Document) -> list[tuple[str, str]]:
     return found
 
 
-def values_of_both(one: Circuit, other: Circuit) -> tuple[WireTables, WireTables]:
+def wire_values_of_both(one: Circuit, other: Circuit) -> tuple[WireTables, WireTables]:
     """Returns the values of two circuits with the same inputs, in all choices of up to 16 inputs, or else in samples.
     """
     values = evaluate_all_or_samples(one, MAX_EXHAUSTIVE_INPUTS, SAMPLE_COUNT)
     free = {name: values.tables[name] for name in one.inputs}
-    return values, evaluate_under(other, free, values.full, range(len(other.gates)))
+    return values, evaluate_under_tables(other, free, values.full, range(len(other.gates)))
 
 
 def difference_and_scope_words(one: Circuit, other: Circuit, is_of_common: bool = False) -> tuple[str, str]:
@@ -116,13 +117,13 @@ def difference_and_scope_words(one: Circuit, other: Circuit, is_of_common: bool 
         alone = sorted(set(names) ^ set(others))
         if alone:
             return f"only one of them has the {kind} {alone[0]}", "the names of inputs and outputs"
-    mine, theirs = values_of_both(one, other)
+    mine, theirs = wire_values_of_both(one, other)
     for name in common:
         unequal = (mine.tables[name] ^ theirs.tables[name]) | (mine.defined_columns ^ theirs.defined_columns)
         if unequal:
             column = (unequal & -unequal).bit_length() - 1
             on = " ".join(mine.true_free_wires(column)) or "no input"
-            return f"with {on} on, {name} differs", mine.choices_words
+            return f"with {on} on, {name} differs", mine.tried_choices_words
     if len(one.inputs) <= MAX_EXHAUSTIVE_INPUTS:
-        return "", mine.choices_words
+        return "", mine.tried_choices_words
     return "", f"in {SAMPLE_COUNT} sampled choices of the inputs"

@@ -2,7 +2,7 @@
 
 import argparse
 
-from ..host.terminal import LabError, read_text, write_text
+from ..host.terminal import LabError, read_latin1_text, write_utf8_text
 from ..physics import standard_cells
 from ..texts.designs import read_layout_file
 from .draw import picture_of
@@ -17,8 +17,8 @@ def run(options: argparse.Namespace) -> int:
     elif options.svg:
         text = picture_of(read_layout_file(str(standard_cells.cell_path(options.cell))), None, None)
     elif options.bundle:
-        text = read_text(str(standard_cells.cell_path(options.cell)))
+        text = read_latin1_text(str(standard_cells.cell_path(options.cell)))
     else:
         text = standard_cells.read_cell(options.cell).listing() + "\n"
-    write_text(options.output, text)
+    write_utf8_text(options.output, text)
     return 0

@@ -2,9 +2,9 @@
 
 import argparse
 
-from ..certify.certifier import CertificateOptions, certified_text, legal_grid_boxes
-from ..host.program import BadProgramError, ProgramTimeout, ask, find_and_open_program
-from ..host.terminal import LabError, read_text, tell, write_text
+from ..certify.certifier import CertificateOptions, certified_text, checked_grid_boxes
+from ..host.program import BadProgramError, ProgramTimeout, ask_program, find_and_open_program
+from ..host.terminal import LabError, read_latin1_text, tell_user, write_utf8_text
 from ..texts.certificates import MAX_BOX_SIDE
 from ..texts.documents import Document, read_document
 from ..texts.layouts import Box, Layout
@@ -16,7 +16,7 @@ def run(options: argparse.Namespace) -> int:
 
     An old certificate is left out, apart from stops that hold.
     """
-    text = read_text(options.file)
+    text = read_latin1_text(options.file)
     document = read_without_certificate(text, options.file)
     # A plain certificate has no cuts to choose: the program's no to it is about the layout, and shows where it is
     # wrong.
@@ -31,9 +31,9 @@ def run(options: argparse.Namespace) -> int:
     notes: list[str] = []
     bundle = certified_text(document, chosen_boxes(options, document.layout), plan, notes)
     for note in notes:
-        tell(note)
+        tell_user(note)
     status = check_and_tell(bundle, options)
-    write_text(options.output, bundle, [options.file])
+    write_utf8_text(options.output, bundle, [options.file])
     return status
 
 
@@ -54,16 +54,16 @@ def chosen_boxes(options: argparse.Namespace, layout: Layout) -> list[Box] | Non
             raise LabError(
                 f"--plain takes a layout of at most {MAX_BOX_SIDE} by {MAX_BOX_SIDE} cells, and this one has "
                            f"{layout.width} by {layout.height}", 2)
-        return legal_grid_boxes(layout, layout.width, layout.height)
+        return checked_grid_boxes(layout, layout.width, layout.height)
     if options.grid:
-        return legal_grid_boxes(layout, *options.grid)
+        return checked_grid_boxes(layout, *options.grid)
     return boxes_of_file(options.boxes, layout) if options.boxes else None
 
 
 def boxes_of_file(file: str, layout: Layout) -> list[Box]:
     """Returns the boxes of the lines `module X Y W H` of a text."""
     found = []
-    for line in read_text(file).split("\n"):
+    for line in read_latin1_text(file).split("\n"):
         words = line.split(" ")
         if words[0] == "module":
             if len(words) != 5 or not all(word.isdecimal() and len(word) < 9 for word in words[1:]):
@@ -85,18 +85,18 @@ def check_and_tell(bundle: str, options: argparse.Namespace) -> int:
     yes` together.
     """
     try:
-        answer = ask(find_and_open_program(options.program), "check", bundle.encode("latin-1"), options.timeout)
+        answer = ask_program(find_and_open_program(options.program), "check", bundle.encode("latin-1"), options.timeout)
     except (BadProgramError, ProgramTimeout) as error:
-        tell(f"the certificate was not checked: {error}")
+        tell_user(f"the certificate was not checked: {error}")
         return 4
     lines = answer.output.split("\n")
     verdict = lines[3] if len(lines) > 3 else ""
     if (answer.status, verdict) == (0, "verdict yes"):
-        tell("the program says yes")
+        tell_user("the program says yes")
         return 0
     if answer.status == 3 or (answer.status, verdict) == (1, "verdict no"):
         what = lines[0] if answer.status == 3 else f"no: {lines[4]}"
-        tell(f"the program does not say yes: {what}")
+        tell_user(f"the program does not say yes: {what}")
         return 1
-    tell(f"the program gave no verdict: status {answer.status} {answer.errors}".rstrip())
+    tell_user(f"the program gave no verdict: status {answer.status} {answer.errors}".rstrip())
     return 4

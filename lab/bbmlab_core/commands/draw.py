@@ -2,10 +2,10 @@
 
 import argparse
 
-from ..host.terminal import LabError, write_text
+from ..host.terminal import LabError, write_utf8_text
 from ..physics import tracing
 from ..pictures import drawing
-from ..pictures.picture_parts import PictureOptions, wanted_wires, with_others_grouped
+from ..pictures.picture_parts import PictureOptions, highlighted_wires, ways_with_others_grouped
 from ..texts.circuits import Circuit
 from ..texts.designs import read_layout_file, report_from_option
 from ..texts.documents import Document
@@ -18,7 +18,7 @@ def picture_of(design: tuple[Document, Layout], names: str | None, time: int | N
                report: ReportOrRefusal | None = None, look: PictureOptions = PictureOptions()) -> str:
     """Returns the picture of a design at a time, or without a time the ways of its balls."""
     document, layout = design
-    is_large = max(layout.width, layout.height) > drawing.LARGE_SIDE
+    is_large = max(layout.width, layout.height) > drawing.LARGE_LAYOUT_SIDE
     on = tracing.chosen_inputs(document, names)
     under = f" with {' '.join(on) or 'no input'} on"
     modules = list(document.certificate.modules) if document.certificate and not is_large else []
@@ -29,20 +29,20 @@ def picture_of(design: tuple[Document, Layout], names: str | None, time: int | N
     if time is None:
         picture.ways, picture.wire_labels = drawing.ball_ways_and_labels(document, on if names is not None else None,
                                                                          layout.steps, look.has_arrows)
-        picture.title = "ways of the balls" + (under if names is not None else drawing.sampled_words(document))
+        picture.title = "ways of the balls" + (under if names is not None else drawing.sampling_note(document))
     else:
         picture.live, picture.title = tracing.state_at(layout, on, time), f"time {time}{under}"
-    wanted = wanted_wires(look, document.circuit, tracing.input_names(layout))
+    wanted = highlighted_wires(look, document.circuit, tracing.input_names(layout))
     if wanted:
-        picture.ways = with_others_grouped(picture.ways, picture.wire_labels, wanted)
+        picture.ways = ways_with_others_grouped(picture.ways, picture.wire_labels, wanted)
     for finding in report.faults if report else []:
         if "x" in finding.values:
-            picture.faults.append(((finding.number("x"), finding.number("y")), finding.text))
+            picture.faults.append(((finding.number_value("x"), finding.number_value("y")), finding.text))
     # In a large layout dashes cannot be told apart.
-    most = len(drawing.COLOURS) if is_large else drawing.MAX_LEGEND
+    most = len(drawing.COLOURS) if is_large else drawing.MAX_LEGEND_WIRES
     wires = drawing.group_ways_by_level(picture, document.circuit,
                                         most) if document.circuit else tracing.input_names(layout)
-    return drawing.svg(layout, picture, wires)
+    return drawing.layout_svg(layout, picture, wires)
 
 
 def visible_box(look: PictureOptions, layout: Layout) -> Box | None:
@@ -78,5 +78,6 @@ def run(options: argparse.Namespace) -> int:
         raise LabError("--wires, --cone and --arrows need --ways")
     design = read_layout_file(options.file, has_certificate=bool(options.report))
     report = report_from_option(options, design[0])
-    write_text(options.output, picture_of(design, options.on, None if options.ways else options.time, report, look))
+    write_utf8_text(options.output, picture_of(design, options.on, None if options.ways else options.time,
+                                               report, look))
     return 0

@@ -3,9 +3,9 @@
 import argparse
 import sys
 
-from ..host.terminal import LabError, escape_controls, read_bytes, tell, write_bytes
+from ..host.terminal import LabError, escape_controls, read_bytes, tell_user, write_bytes
 from ..texts.documents import read_document
-from ..texts.spelling import Spelling, spelling_of
+from ..texts.spelling import SpelledText, spell_text
 
 MAX_SHOWN_NOTES = 20
 
@@ -19,7 +19,7 @@ def run(options: argparse.Namespace) -> int:
     changed = 0
     for file in options.files:
         data = read_bytes(file)
-        spelling = spelling_of(data.decode("latin-1"))
+        spelling = spell_text(data.decode("latin-1"))
         after = spelling.text.encode("latin-1")
         if options.check:
             changed += after != data
@@ -34,7 +34,7 @@ def run(options: argparse.Namespace) -> int:
     return 1 if changed else 0
 
 
-def write_in_place(file: str, spelling: Spelling, before: bytes, after: bytes, strips: bool) -> None:
+def write_in_place(file: str, spelling: SpelledText, before: bytes, after: bytes, strips: bool) -> None:
     """Writes a file again if it changes. Comments are left out only if that is asked for."""
     if spelling.comment_count and not strips:
         count = f"{spelling.comment_count} comment{'s' if spelling.comment_count != 1 else ''}"
@@ -45,14 +45,14 @@ def write_in_place(file: str, spelling: Spelling, before: bytes, after: bytes, s
         print(f"{escape_controls(file)}: written again", file=sys.stderr)
 
 
-def tell_changes(file: str, spelling: Spelling) -> None:
+def tell_changes(file: str, spelling: SpelledText) -> None:
     """Says on standard error what was changed, and whether the text is still refused."""
     for note in spelling.notes[:MAX_SHOWN_NOTES]:
-        tell(f"{file}: {note}")
+        tell_user(f"{file}: {note}")
     if len(spelling.notes) > MAX_SHOWN_NOTES:
-        tell(f"{file}: and {len(spelling.notes) - MAX_SHOWN_NOTES} more changes")
+        tell_user(f"{file}: and {len(spelling.notes) - MAX_SHOWN_NOTES} more changes")
     if len(spelling.text) > 2_000_000:
         return
     refusal = read_document(spelling.text).refusal
     if refusal:
-        tell(f"{file}: line {refusal.line} is still refused, with code {refusal.code}: bbmlab explain says why")
+        tell_user(f"{file}: line {refusal.line} is still refused, with code {refusal.code}: bbmlab explain says why")

@@ -11,10 +11,10 @@ from html import escape
 from pathlib import Path
 
 from ..host.program import BadProgramError, find_and_open_program
-from ..host.terminal import LabError, tell
+from ..host.terminal import LabError, tell_user
 from ..studio.answers import Answers
 from ..studio.folder import Folder
-from ..studio.jobs import Jobs
+from ..studio.jobs import JobQueue
 from ..studio.routes import RouteSearches
 from ..studio.server import studio_server
 
@@ -29,21 +29,21 @@ def run(options: argparse.Namespace) -> int:
     jobs = routes = None
     try:
         program = find_and_open_program(options.program)
-        jobs = Jobs(program, options.timeout or 20.0, options.memory)
+        jobs = JobQueue(program, options.timeout or 20.0, options.memory)
         routes = RouteSearches(str(program), options.memory)
     except BadProgramError as error:
-        tell(f"the studio gives no verdicts: {error}")
+        tell_user(f"the studio gives no verdicts: {error}")
     try:
         server = studio_server(options.port, Answers(folder, jobs, routes))
     except OSError as error:
         raise LabError(f"port {options.port}: {error.strerror or error}") from error
     print(server.address, flush=True)
-    tell("the studio runs until you press Ctrl-C. The address lets one browser in, which can change the files of this "
-         "folder.")
+    tell_user("the studio runs until you press Ctrl-C. The address lets one browser in, which can change the files of "
+              "this folder.")
     server.on_entry = lambda: print("bbmlab: a browser has opened the studio. Another one gets in by "
                                     f"{server.address}", file=sys.stderr, flush=True)
     if jobs:
-        threading.Thread(target=jobs.start_ahead, daemon=True).start()
+        threading.Thread(target=jobs.start_worker_ahead, daemon=True).start()
     with ExitStack() as ending:
         if jobs:
             ending.callback(jobs.close)
@@ -64,7 +64,7 @@ def open_browser(address: str, ending: ExitStack) -> None:
     try:
         page = write_private_page(Path(ending.enter_context(tempfile.TemporaryDirectory(prefix="bbmlab-"))), address)
     except OSError as error:
-        tell(f"no browser is opened, since no page can be written for it: {error.strerror or error}")
+        tell_user(f"no browser is opened, since no page can be written for it: {error.strerror or error}")
         return
     threading.Thread(target=webbrowser.open, args=(page.as_uri(),), daemon=True).start()
 

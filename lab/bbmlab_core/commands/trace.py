@@ -2,8 +2,8 @@
 
 import argparse
 
-from ..host.program import BadProgramError, ProgramTimeout, ask, find_and_open_program
-from ..host.terminal import LabError, tell, write_text
+from ..host.program import BadProgramError, ProgramTimeout, ask_program, find_and_open_program
+from ..host.terminal import LabError, tell_user, write_utf8_text
 from ..physics import tracing
 from ..texts.designs import read_layout_file
 
@@ -21,10 +21,10 @@ def run(options: argparse.Namespace) -> int:
     else:
         on = tracing.chosen_inputs(document, options.on)
         trace = tracing.trace_layout(layout, on, options.start, last)
-        compare_with_program(options, trace, tracing.run_input(tracing.layout_section_lines(document), on))
+        compare_with_program(options, trace, tracing.bytes_for_run_command(tracing.layout_section_lines(document), on))
     mirrors = layout.mirror_cells()
-    write_text(options.output, tracing.as_json(trace, mirrors) if options.json
-               else tracing.as_text(trace, mirrors, options.pictures))
+    write_utf8_text(options.output, tracing.trace_json_text(trace, mirrors) if options.json
+                    else tracing.trace_text(trace, mirrors, options.pictures))
     return 1 if trace.leaving_step is not None else 0
 
 
@@ -32,14 +32,14 @@ def compare_with_program(options: argparse.Namespace, trace: tracing.Trace, text
     """Compares the last state with the program's `run`, where there is a program, and says what came of it on standard
     error."""
     try:
-        answer = ask(find_and_open_program(options.program), "run", text, options.timeout)
+        answer = ask_program(find_and_open_program(options.program), "run", text, options.timeout)
     except (BadProgramError, ProgramTimeout) as error:
-        tell(f"the last state was not compared: {error}")
+        tell_user(f"the last state was not compared: {error}")
         return
     if answer.status >= 3:
-        tell(f"the last state was not compared: {answer.errors or answer.output.strip()}")
+        tell_user(f"the last state was not compared: {answer.errors or answer.output.strip()}")
         return
-    differs = tracing.difference_from_run(trace, answer.output)
+    differs = tracing.describe_difference_from_run(trace, answer.output)
     if differs:
         raise LabError(f"the lab's run is wrong: {differs}")
-    tell("the last state is what the program's run says")
+    tell_user("the last state is what the program's run says")

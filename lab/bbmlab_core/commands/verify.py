@@ -6,8 +6,8 @@ from pathlib import Path
 
 from ..farm.answering import RESULT_WORDS
 from ..farm.checking import exit_status
-from ..farm.receipts import SECTIONS, Receipt, ReceiptError, parse_receipt, section_digests, sha256
-from ..host.program import Answer, ask, find_and_open_program
+from ..farm.receipts import BUNDLE_SECTION_NAMES, Receipt, ReceiptError, parse_receipt, section_digests, sha256_digits
+from ..host.program import ProgramAnswer, ask_program, find_and_open_program
 from ..host.releases import known_releases
 from ..host.terminal import LabError, escape_controls, read_bytes
 
@@ -19,10 +19,10 @@ def read_receipt(name: str) -> Receipt:
 
 def text_differences(receipt: Receipt, text: bytes) -> list[str]:
     """Returns why a receipt is of another text, in words."""
-    if (len(text), sha256(text)) == (receipt.size, receipt.text_sha256):
+    if (len(text), sha256_digits(text)) == (receipt.size, receipt.text_sha256):
         return []
     digests = section_digests(text)
-    other = [name for name in SECTIONS if digests[name] != receipt.digest_of_section[name]]
+    other = [name for name in BUNDLE_SECTION_NAMES if digests[name] != receipt.digest_of_section[name]]
     if not other:
         return ["the receipt is of another text: what stands behind the sections differs"]
     return [f"the receipt is of another text: the {' and the '.join(other)} section "
@@ -59,7 +59,7 @@ def differences_after_new_run(receipt: Receipt, text: bytes, options: argparse.N
     if program.sha256 != receipt.program.sha256:
         raise LabError(f"{program} is not the program of the receipt, so its answer would show nothing; name that "
                        "program with --program")
-    said: Answer = ask(program, "check", text, options.timeout)
+    said: ProgramAnswer = ask_program(program, "check", text, options.timeout)
     if (said.status, said.output) == (receipt.status, receipt.report):
         return []
     return [f"the program now says something else: status {said.status}, and the report\n{said.output}"]

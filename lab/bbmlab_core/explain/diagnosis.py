@@ -11,7 +11,8 @@ from functools import cached_property
 from typing import Callable
 
 from ..host.processor import processor_seconds
-from ..physics.simulation import Fault, LiveCells, ModuleRun, Table, WholeRun, cell_of, end_tables, key_of, lowest_bit
+from ..physics.simulation import (Fault, LiveCells, ModuleRun, TruthTable, WholeRun, cell_of, key_of, least_assignment,
+                                  required_end_tables)
 from ..texts.certificates import Module, local_wires
 from ..texts.circuits import Circuit, WireTables, evaluate_gates, evaluate_all_or_samples
 from ..texts.documents import Document
@@ -22,8 +23,8 @@ MAX_EXHAUSTIVE_INPUTS = 12
 # How many choices of the inputs are tried where they are more than MAX_INPUTS.
 SAMPLE_COUNT = 256
 # The most steps for which the whole run is made under all inputs or samples, and the most seconds that it takes.
-MAX_STEPS = 5000
-MAX_SECONDS = 20.0
+MAX_WHOLE_RUN_STEPS = 5000
+MAX_WHOLE_RUN_SECONDS = 20.0
 
 
 class Tristate(Enum):
@@ -66,7 +67,7 @@ class RunDifference:
 
 
 @dataclass(frozen=True)
-class Signal:
+class FoundSignal:
     """The signal of a cell at a time: its name if `known` is YES; NO if no wire has the cell's values.
 
     With samples a name is that of a wire which agrees in all samples.
@@ -77,7 +78,7 @@ class Signal:
 
 
 @dataclass(frozen=True)
-class WholeOutcome:
+class WholeRunOutcome:
     """Whether some certificate may get a yes: the whole run ends as the layout asks, and its rim is dead at odd times
     before.
 
@@ -103,12 +104,12 @@ class RimWatch:
     """Looks at each step of a whole run whether a cell of the rim is live at an odd time before the end, under
     assignments that count."""
 
-    def __init__(self, layout: Layout, defined: Table) -> None:
+    def __init__(self, layout: Layout, defined: TruthTable) -> None:
         self.defined, self.steps = defined, layout.steps
         self.keys = {key_of((x, y)) for x in range(layout.width) for y in (0, layout.height - 1)}
         self.keys |= {key_of((x, y)) for y in range(layout.height) for x in (0, layout.width - 1)}
         # The first time, the cell, and under which assignments.
-        self.found: tuple[int, Cell, Table] | None = None
+        self.found: tuple[int, Cell, TruthTable] | None = None
 
     def note_live_rim(self, run: WholeRun) -> None:
         """Looks at the present state. A cell that did not change in two steps was live at the odd time before."""
@@ -120,7 +121,7 @@ class RimWatch:
             self.found = run.time, cell_of(min(live)), run.field.live[min(live)] & self.defined
 
 
-class Diagnosis:
+class DiagnosticRuns:
     """Runs of one document that explain its report. Runs are kept, since several lines ask for the same ones."""
 
     def __init__(self, document: Document) -> None:
@@ -149,11 +150,11 @@ class Diagnosis:
         return evaluate_all_or_samples(self.circuit, MAX_EXHAUSTIVE_INPUTS, SAMPLE_COUNT)
 
     @property
-    def choices_words(self) -> str:
+    def tried_choices_words(self) -> str:
         """In how many choices of the inputs the whole run was tried, in words."""
-        return self.wire_tables.choices_words
+        return self.wire_tables.tried_choices_words
 
-    def occurrence(self, module: Module, assignment: int) -> AssignmentOccurrence:
+    def assignment_occurrence(self, module: Module, assignment: int) -> AssignmentOccurrence:
         """Returns whether the circuit gives the module's cuts these values, and for which inputs."""
         inputs, gates = self.circuit.cone_inputs_and_gates(module.cuts)
         is_all = len(inputs) <= MAX_EXHAUSTIVE_INPUTS
@@ -166,11 +167,11 @@ class Diagnosis:
         total = 1 << len(inputs) if is_all else 0
         if not table:
             return AssignmentOccurrence(Tristate.NO if is_all else Tristate.UNKNOWN, total=total)
-        chosen = lowest_bit(table)
+        chosen = least_assignment(table)
         given = {name: values.tables[name] >> chosen & 1 for name in inputs}
         return AssignmentOccurrence(Tristate.YES, given, table.bit_count() if is_all else 0, total)
 
-    def occurring_assignment_table(self, module: Module) -> Table:
+    def occurring_assignment_table(self, module: Module) -> TruthTable:
         """Returns a table of assignments of the module's cuts that occur: all of them, or those that occur in the
         samples."""
         inputs, gates = self.circuit.cone_inputs_and_gates(module.cuts)
@@ -189,7 +190,7 @@ class Diagnosis:
             found |= 1 << assignment
         return found
 
-    def occurring_fault(self, module: Module) -> Fault | None:
+    def fault_under_occurring_assignments(self, module: Module) -> Fault | None:
         """Returns the least fault of a module's own run under assignments that are known to occur, or None if there is
         none."""
         run = ModuleRun(self.circuit, self.layout, self.certificate, module)
@@ -201,7 +202,8 @@ class Diagnosis:
         run = ModuleRun(self.circuit, self.layout, self.certificate, module)
         run.run_to(time)
         heard = run.halos.tables_at(time) if time % 2 and time < self.layout.steps else {}
-        return run.field.state(assignment), {cell_of(key) for key, table in heard.items() if table >> assignment & 1}
+        return run.field.live_cells_under(assignment), {cell_of(key) for key, table in heard.items()
+                                                        if table >> assignment & 1}
 
     def first_difference(self, module: Module, assignment: int, inputs: dict[str, int],
                          until: int) -> RunDifference | None:
@@ -244,7 +246,7 @@ class Diagnosis:
         if not self.can_run_whole():
             return None
         run, end = WholeRun(self.layout, self.wire_tables.tables,
-                            self.wire_tables.full), processor_seconds() + MAX_SECONDS
+                            self.wire_tables.full), processor_seconds() + MAX_WHOLE_RUN_SECONDS
         while run.time < time and run.step():
             look(run)
             if processor_seconds() > end:
@@ -252,57 +254,60 @@ class Diagnosis:
                 return None
         return run
 
-    def signal_with_table(self, table: Table) -> Signal:
+    def signal_with_table(self, table: TruthTable) -> FoundSignal:
         """Returns the signal that is true in just these choices of the inputs:
 
         `1`, a wire, or `0` where it is never true.
         """
         if not table:
-            return Signal(Tristate.YES, "0")
+            return FoundSignal(Tristate.YES, "0")
         if table == self.wire_tables.full:
-            return Signal(Tristate.YES, "1")
+            return FoundSignal(Tristate.YES, "1")
         name = next((name for name, other in self.wire_tables.tables.items() if other == table), None)
-        return Signal(Tristate.NO) if name is None else Signal(Tristate.YES, name)
+        return FoundSignal(Tristate.NO) if name is None else FoundSignal(Tristate.YES, name)
 
-    def signal_of(self, cell: Cell, time: int) -> Signal:
+    def signal_of(self, cell: Cell, time: int) -> FoundSignal:
         """Returns the signal of a cell in the whole run at a time."""
         field_ = self.whole_run_cells(time)
-        return Signal(Tristate.UNKNOWN) if field_ is None else self.signal_with_table(field_.live.get(key_of(cell), 0))
+        if field_ is None:
+            return FoundSignal(Tristate.UNKNOWN)
+        return self.signal_with_table(field_.live.get(key_of(cell), 0))
 
     def can_run_whole(self) -> bool:
         """Whether a run of the whole layout under all inputs, or under samples, takes seconds at most."""
-        return self.layout.steps <= MAX_STEPS and not self.is_slow
+        return self.layout.steps <= MAX_WHOLE_RUN_STEPS and not self.is_slow
 
     @cached_property
-    def whole_outcome(self) -> WholeOutcome:
+    def whole_run_outcome(self) -> WholeRunOutcome:
         """Whether the whole run ends as the layout asks with a dead rim, whatever the certificate says."""
         values, rim = self.wire_tables, RimWatch(self.layout, self.wire_tables.defined_columns)
         run = self.whole_run_to(self.layout.steps, rim.note_live_rim)
         if run is None:
-            return WholeOutcome(Tristate.UNKNOWN)
+            return WholeRunOutcome(Tristate.UNKNOWN)
         if run.left is not None:
-            inputs = self.inputs_words(lowest_bit(run.left[1]))
-            return WholeOutcome(Tristate.NO,
-                                f"with {inputs} step {run.left[0]} makes the cell ({run.left[2][0]}, {run.left[2][1]}) "
-                                "outside the rectangle live")
-        wanted = {key_of(cell): table for cell, table in end_tables(self.layout, values.tables, values.full).items()}
+            inputs = self.input_choice_words(least_assignment(run.left[1]))
+            x, y = run.left[2]
+            return WholeRunOutcome(Tristate.NO, f"with {inputs} step {run.left[0]} makes the cell ({x}, {y}) outside "
+                                                "the rectangle live")
+        wanted = {key_of(cell): table
+                  for cell, table in required_end_tables(self.layout, values.tables, values.full).items()}
         for key in sorted(wanted.keys() | run.field.live.keys()):
             table = wanted.get(key, 0)
             differs = 0 if table is None else (table ^ run.field.live.get(key, 0)) & values.defined_columns
             if differs:
-                inputs, (x, y) = self.inputs_words(lowest_bit(differs)), cell_of(key)
-                is_live = run.field.live.get(key, 0) >> lowest_bit(differs) & 1
+                inputs, (x, y) = self.input_choice_words(least_assignment(differs)), cell_of(key)
+                is_live = run.field.live.get(key, 0) >> least_assignment(differs) & 1
                 found, asked = ("live", "dead") if is_live else ("dead", "live")
-                return WholeOutcome(Tristate.NO,
-                                    f"with {inputs} the cell ({x}, {y}) is {found} at the end and should be {asked}")
+                return WholeRunOutcome(Tristate.NO,
+                                       f"with {inputs} the cell ({x}, {y}) is {found} at the end and should be {asked}")
         if rim.found:
             time, (x, y), table = rim.found
-            return WholeOutcome(Tristate.NO,
-                                f"with {self.inputs_words(lowest_bit(table))} the cell ({x}, {y}) of the rim is "
-                                f"live at time {time}", True)
-        return WholeOutcome(Tristate.YES if values.is_all else Tristate.UNKNOWN)
+            inputs = self.input_choice_words(least_assignment(table))
+            return WholeRunOutcome(Tristate.NO,
+                                   f"with {inputs} the cell ({x}, {y}) of the rim is live at time {time}", True)
+        return WholeRunOutcome(Tristate.YES if values.is_all else Tristate.UNKNOWN)
 
-    def inputs_words(self, column: int) -> str:
+    def input_choice_words(self, column: int) -> str:
         """Returns a tried choice of inputs as `p=1 q=0`; of many inputs only those that are on."""
         names = self.circuit.inputs
         if not names:
@@ -316,4 +321,4 @@ class Diagnosis:
 
     def module_of_finding(self, finding: ReportLine) -> Module:
         """Returns the module of a line of a report."""
-        return self.certificate.modules[finding.number("module")]
+        return self.certificate.modules[finding.number_value("module")]

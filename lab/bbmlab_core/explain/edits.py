@@ -5,7 +5,7 @@ from collections import Counter
 from dataclasses import dataclass
 from typing import Iterable
 
-from ..texts.spelling import module_line_key, rank_of, SECTION_ORDERS
+from ..texts.spelling import line_kind_rank, module_line_key, SECTION_ORDERS
 
 ACTIONS = ("add", "replace", "delete")
 # The most lines between the first and the last difference of two texts for which the fewest edits are looked for.
@@ -31,7 +31,7 @@ class Edit:
     action: str
     text: str = ""
 
-    def words(self, lines: list[str]) -> str:
+    def as_sentence(self, lines: list[str]) -> str:
         """Returns the edit as a sentence; `lines` are those of the text before all edits."""
         old = lines[self.line - 1] if 0 < self.line <= len(lines) else ""
         if self.action == "add":
@@ -59,7 +59,7 @@ def deletion(line: int) -> Edit:
     return Edit(line, "delete")
 
 
-def text_after(text: str, edits: Iterable[Edit]) -> str:
+def text_after_edits(text: str, edits: Iterable[Edit]) -> str:
     """Returns the text after all edits. Lines that are added at one place keep the order of the edits."""
     lines = text.split("\n")
     added: dict[int, list[str]] = {}
@@ -127,7 +127,7 @@ def insertion_line_in_section(lines: list[str], header: str, text: str) -> int:
     """Returns the line behind which a line of the circuit or the layout belongs, as the last of its kind."""
     order = SECTION_ORDERS[header]
     start = next((number for number, line in enumerate(lines, 1) if line.partition(" ")[0] == header), 0)
-    place, rank = start, rank_of(text, order)
-    while place < len(lines) and lines[place] not in ("end", "") and rank_of(lines[place], order) <= rank:
+    place, rank = start, line_kind_rank(text, order)
+    while place < len(lines) and lines[place] not in ("end", "") and line_kind_rank(lines[place], order) <= rank:
         place += 1
     return place

@@ -7,10 +7,10 @@ from functools import cached_property
 from typing import Callable, Iterable
 
 from ..host.processor import processor_seconds
-from ..physics.simulation import Table, WholeRun, cell_of
-from ..texts.certificates import Border, Module, certificate_line_text
+from ..physics.simulation import TruthTable, WholeRun, cell_of
+from ..texts.certificates import Border, Module, border_or_stop_text
 from ..texts.layouts import Cell
-from .diagnosis import MAX_SECONDS, Diagnosis
+from .diagnosis import MAX_WHOLE_RUN_SECONDS, DiagnosticRuns
 from .edits import Edit, addition, deletion, insertion_line_in_module, replacement
 
 # The most lines that one cell gets, and how many wires with the values of a cell are proposed.
@@ -46,16 +46,16 @@ class LiveTimes:
     noted of them.
     """
 
-    def __init__(self, live: dict[int, Table], is_noted: Callable[[Cell], bool], steps: int) -> None:
+    def __init__(self, live: dict[int, TruthTable], is_noted: Callable[[Cell], bool], steps: int) -> None:
         self.live, self.is_noted, self.steps = live, is_noted, steps
         # The cells that were live or changed up to now: those that are noted, and all of them.
         self.own: set[int] = set()
         self.known: set[int] = set()
-        self.still = {key: live[key] for key in self.noted_among(set(live))}
+        self.still = {key: live[key] for key in self.select_noted_cells(set(live))}
         self.moving: set[int] = set()
-        self.seen: dict[int, dict[int, Table]] = {}
+        self.seen: dict[int, dict[int, TruthTable]] = {}
 
-    def noted_among(self, keys: set[int]) -> set[int]:
+    def select_noted_cells(self, keys: set[int]) -> set[int]:
         """Returns the cells that are noted among some."""
         new = keys - self.known
         if new:
@@ -70,7 +70,7 @@ class LiveTimes:
 
     def note_changes(self, changed: set[int], time: int) -> None:
         """Takes the cells that changed in the step to a time."""
-        for key in self.noted_among(changed):
+        for key in self.select_noted_cells(changed):
             if key in self.still:
                 self.seen[key] = dict.fromkeys(range(1, time, 2), self.still.pop(key))
             if key in self.live:
@@ -78,7 +78,7 @@ class LiveTimes:
             else:
                 self.moving.discard(key)
 
-    def tables_by_cell_and_time(self) -> dict[int, dict[int, Table]]:
+    def tables_by_cell_and_time(self) -> dict[int, dict[int, TruthTable]]:
         """Returns the tables by cell and odd time, after the last step."""
         shared = {table: dict.fromkeys(range(1, self.steps, 2), table) for table in set(self.still.values())}
         return {**self.seen, **{key: shared[table] for key, table in self.still.items()}}
@@ -87,9 +87,9 @@ class LiveTimes:
 class BorderCheck:
     """Compares the `edge` and `halo` lines of a certificate with the whole run."""
 
-    def __init__(self, diagnosis: Diagnosis, seconds: float = MAX_SECONDS) -> None:
+    def __init__(self, diagnosis: DiagnosticRuns, seconds: float = MAX_WHOLE_RUN_SECONDS) -> None:
         # `seconds` of the processor are what the run may take.
-        self.diagnosis, self.seconds = diagnosis, min(seconds, MAX_SECONDS)
+        self.diagnosis, self.seconds = diagnosis, min(seconds, MAX_WHOLE_RUN_SECONDS)
         self.certificate, self.circuit, self.layout = diagnosis.certificate, diagnosis.circuit, diagnosis.layout
         self.lines = diagnosis.document.text.split("\n")
         self.unnamed: list[UnnamedCell] = []
@@ -101,7 +101,7 @@ class BorderCheck:
         return owner if owner and owner.box.has_in_ring(cell) else None
 
     @cached_property
-    def ring_tables(self) -> dict[Cell, dict[int, Table]] | None:
+    def ring_tables(self) -> dict[Cell, dict[int, TruthTable]] | None:
         """The tables of the cells of all rings at the odd times at which they are live, or None if the run is too long
         or leaves."""
         if not self.diagnosis.can_run_whole():
@@ -118,7 +118,7 @@ class BorderCheck:
             watch.note_changes(run.field.changed, run.time)
         return {cell_of(key): times for key, times in watch.tables_by_cell_and_time().items() if times}
 
-    def signal_table(self, signal: str) -> Table:
+    def signal_table(self, signal: str) -> TruthTable:
         """Returns the table of a signal."""
         return self.diagnosis.wire_tables.full if signal == "1" else self.diagnosis.wire_tables.tables[signal]
 
@@ -146,9 +146,9 @@ class BorderCheck:
             return None
         actual = self.ring_tables.get(cell, {})
         hearers = [other for other in self.certificate.neighbours(owner) if other.box.has_in_halo(cell)]
-        wrong = self.first_wrong_time_if_any(owner, actual, lines)
+        wrong = self.first_wrong_time_as_list(owner, actual, lines)
         if self.certificate.version == 1:
-            wrong += [time for hearer in hearers for time in self.first_wrong_time_if_any(hearer, actual, lines)]
+            wrong += [time for hearer in hearers for time in self.first_wrong_time_as_list(hearer, actual, lines)]
         if not wrong:
             return None
         edits = [self.edits_for_signals(cell, owner, hearers, signals)
@@ -164,10 +164,10 @@ class BorderCheck:
         for hearer in hearers:
             if self.certificate.version == 1:
                 edits += self.edits_for_lines(cell, hearer, "halo", signals)
-            edits += self.edits_to_local_wires(hearer, signals)
-        return list(dict.fromkeys(edits + self.edits_to_local_wires(owner, signals)))
+            edits += self.edits_making_wires_local(hearer, signals)
+        return list(dict.fromkeys(edits + self.edits_making_wires_local(owner, signals)))
 
-    def possible_signals(self, cell: Cell, actual: dict[int, Table], modules: list[Module],
+    def possible_signals(self, cell: Cell, actual: dict[int, TruthTable], modules: list[Module],
                          lines: list[tuple[Module, Border]]) -> list[dict[int | None, str]]:
         """Returns the signals that a cell may have, the likeliest first; none if no wire has its values, or if it needs
         too many lines."""
@@ -179,8 +179,8 @@ class BorderCheck:
             found.append(signals)
         return found
 
-    def first_wrong_time_if_any(self, module: Module, actual: dict[int, Table],
-                                lines: list[tuple[Module, Border]]) -> list[int]:
+    def first_wrong_time_as_list(self, module: Module, actual: dict[int, TruthTable],
+                                 lines: list[tuple[Module, Border]]) -> list[int]:
         """Returns the first odd time at which the lines of a module about a cell differ from the run, in a list that
         may be empty."""
         own = {line.time: self.signal_table(line.signal) for other, line in lines if other is module}
@@ -189,7 +189,7 @@ class BorderCheck:
         times = sorted(time for time in actual.keys() | own.keys() if time is not None)
         return next(([time] for time in times if actual.get(time, 0) != own.get(time, 0)), [])
 
-    def expected_signals(self, cell: Cell, actual: dict[int, Table], modules: list[Module],
+    def expected_signals(self, cell: Cell, actual: dict[int, TruthTable], modules: list[Module],
                          lines: list[tuple[Module, Border]], rank: int) -> dict[int | None, str] | None:
         """Returns the signals that a cell should have by time, or None if no wire has its values.
 
@@ -210,7 +210,7 @@ class BorderCheck:
             signals[time] = names[min(rank, len(names) - 1)]
         return signals
 
-    def likely_wires(self, table: Table, modules: list[Module], cell: Cell, time: int) -> list[str]:
+    def likely_wires(self, table: TruthTable, modules: list[Module], cell: Cell, time: int) -> list[str]:
         """Returns the wires with a table. First comes that of the line about the cell at the nearest time, then those
         that most modules know.
 
@@ -220,12 +220,12 @@ class BorderCheck:
         if len(wires) < 2:
             return wires
         neighbours = [(cell[0] + dx, cell[1] + dy) for dx in (-1, 0, 1) for dy in (-1, 0, 1) if dx or dy]
-        here, around = self.time_to_nearest_line([cell], time), self.time_to_nearest_line(neighbours, time)
+        here, around = self.nearest_line_distances([cell], time), self.nearest_line_distances(neighbours, time)
         far, known = self.layout.steps + 1, [self.diagnosis.local_wires_of(module) for module in modules]
         return sorted(wires, key=lambda name: (here.get(name, far), -sum(name in local for local in known),
                                                around.get(name, far)))
 
-    def time_to_nearest_line(self, cells: Iterable[Cell], time: int) -> dict[str, int]:
+    def nearest_line_distances(self, cells: Iterable[Cell], time: int) -> dict[str, int]:
         """Returns how far from a time the nearest line about one of some cells is, for each signal."""
         found: dict[str, int] = {}
         for line in (line for cell in cells for _, line in self.lines_by_cell.get(cell, ())):
@@ -238,14 +238,14 @@ class BorderCheck:
         old = {line.time: (at, line.signal) for at, line in module.numbered_lines(kind) if line.cell == cell}
         edits = [deletion(at) for time, (at, _) in old.items() if time not in signals]
         for time, signal in signals.items():
-            text = certificate_line_text(kind, Border(time, *cell, signal))
+            text = border_or_stop_text(kind, Border(time, *cell, signal))
             if time not in old:
                 edits.append(addition(insertion_line_in_module(self.lines, module.line, text), text))
             elif old[time][1] != signal:
                 edits.append(replacement(old[time][0], text))
         return edits
 
-    def edits_to_local_wires(self, module: Module, signals: dict[int | None, str]) -> list[Edit]:
+    def edits_making_wires_local(self, module: Module, signals: dict[int | None, str]) -> list[Edit]:
         """Returns the edits after which a module knows the wires of some signals: a gate that it can use, or else a
         cut."""
         edits, local = [], self.diagnosis.local_wires_of(module)

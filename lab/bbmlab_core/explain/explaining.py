@@ -5,15 +5,15 @@ import re
 from dataclasses import asdict, dataclass, field, replace
 
 from ..host.terminal import escape_controls
-from ..physics.mirrors import falling_mirrors
-from ..texts.certificates import Certificate, certificate_line_text
+from ..physics.mirrors import unstable_mirrors
+from ..texts.certificates import Certificate, border_or_stop_text
 from ..texts.circuits import Circuit
 from ..texts.code_names import CODE_NAMES
-from ..texts.designs import require_report_of
+from ..texts.designs import require_report_of_document
 from ..texts.documents import Document, read_document
 from ..texts.refusals import ExplainedRefusal, explain_code, explain_refusal, names_words
 from ..texts.reports import RUN_ANSWER_PATTERN, ReportLine, ReportOrRefusal, ReportError, parse_report
-from .diagnosis import MAX_STEPS, Diagnosis, Tristate
+from .diagnosis import MAX_WHOLE_RUN_STEPS, DiagnosticRuns, Tristate
 from .edits import Edit
 from .faults import ExplainedLine, assignment_words, explain_border, explain_keep, explain_local, cell_words
 from .fixing import Fix, Fixer, outcome_words
@@ -64,27 +64,27 @@ class ExplainedAnswer:
     fixed: str | None = None
 
 
-def stop_words(diagnosis: Diagnosis, wire: str, which: int) -> str:
+def stop_words(diagnosis: DiagnosticRuns, wire: str, which: int) -> str:
     """Returns the first (0) or last (-1) stop of a wire in words."""
     stops = diagnosis.certificate.stops_of(wire)
     if not stops:
         return f"`{wire}` has no stop"
     name = "first" if which == 0 else "last"
     module, stop = stops[which]
-    text = certificate_line_text("stop", stop)
+    text = border_or_stop_text("stop", stop)
     return f"the {name} stop of `{wire}` is line {module.line_number('stop', stop)} (`{text}`)"
 
 
-def explain_delay(diagnosis: Diagnosis, finding: ReportLine) -> ExplainedLine:
+def explain_delay(diagnosis: DiagnosticRuns, finding: ReportLine) -> ExplainedLine:
     """Returns a `delay` line in words."""
-    gate, found, wanted = diagnosis.circuit.gates[finding.number("gate")], finding.values["found"], finding.values[
-        "wanted"]
+    gate = diagnosis.circuit.gates[finding.number_value("gate")]
+    found, wanted = finding.values["found"], finding.values["wanted"]
     used, made = gate.ins[0], gate.outs[0]
     seen = f"{stop_words(diagnosis, used, -1)}, and {stop_words(diagnosis, made, 0)}"
-    entry = ExplainedLine(finding.text, finding.is_against,
+    entry = ExplainedLine(finding.text, finding.is_reason_for_no,
                           [f"Gate {gate.number} is `delay {wanted} {used} -> {made}` (line {gate.line}): {seen}."],
                           line=gate.line, facts={"gate": gate.number, "wanted": wanted, "found": found})
-    if not finding.is_against:
+    if not finding.is_reason_for_no:
         entry.what.append(f"So the delay takes {found} steps, as it says.")
     elif found == "missing":
         missing = [wire for wire in (used, made) if not diagnosis.certificate.stops_of(wire)]
@@ -96,27 +96,27 @@ def explain_delay(diagnosis: Diagnosis, finding: ReportLine) -> ExplainedLine:
     return entry
 
 
-def explain_meet(diagnosis: Diagnosis, finding: ReportLine) -> ExplainedLine:
+def explain_meet(diagnosis: DiagnosticRuns, finding: ReportLine) -> ExplainedLine:
     """Returns a `meet` line in words."""
-    gate = diagnosis.circuit.gates[finding.number("gate")]
+    gate = diagnosis.circuit.gates[finding.number_value("gate")]
     last = [stops[-1] for stops in map(diagnosis.certificate.stops_of, gate.ins) if stops]
     seen = [(stop, module.line_number("stop", stop)) for module, stop in last]
     told = ", ".join(f"`{stop.name}` at time {stop.time} (line {line})" for stop, line in seen)
-    entry = ExplainedLine(finding.text, finding.is_against,
+    entry = ExplainedLine(finding.text, finding.is_reason_for_no,
                           [f"Inputs of gate {gate.number} (`{gate.kind}`, line {gate.line}) "
                            f"have their last stops: {told}."],
                           line=seen[0][1] if seen else None,
                           facts={"gate": gate.number, "last_stops": {stop.name: stop.time for stop, _ in seen}})
-    if not finding.is_against:
+    if not finding.is_reason_for_no:
         entry.what.append(f"So they meet at time {finding.values['found']}.")
         return entry
     entry.what.append("So they do not meet at one time.")
     return entry
 
 
-def explain_unkept(diagnosis: Diagnosis, finding: ReportLine) -> ExplainedLine:
+def explain_unkept(diagnosis: DiagnosticRuns, finding: ReportLine) -> ExplainedLine:
     """Returns an `unkept` line in words."""
-    gate = diagnosis.circuit.gates[finding.number("gate")]
+    gate = diagnosis.circuit.gates[finding.number_value("gate")]
     users = [module.number for module in diagnosis.certificate.modules if gate.number in module.uses]
     entry = ExplainedLine(finding.text, True,
                           [f"No module has a line `keep {gate.number}` for the inverse gate {gate.number} "
@@ -138,10 +138,10 @@ def explain_report(document: Document, report: ReportOrRefusal, file: str,
         return explain_refused_text(document, report, file, trial)
     if document.certificate is None or document.refusal:
         raise ReportError("the report is not of this text: the lab's reader refuses the text")
-    require_report_of(document, report)
-    diagnosis = Diagnosis(document)
+    require_report_of_document(document, report)
+    diagnosis = DiagnosticRuns(document)
     faults = sorted((finding for finding in report.faults if finding.word == "local"),
-                    key=lambda finding: finding.number("time"))
+                    key=lambda finding: finding.number_value("time"))
     diagnosis.detailed = {finding.text for finding in faults[:MAX_DETAILED_LINES]}
     entries = [EXPLAINERS[finding.word](diagnosis, finding) for finding in report.findings]
     count = len(report.faults)
@@ -151,7 +151,7 @@ def explain_report(document: Document, report: ReportOrRefusal, file: str,
         headline = [f"The verdict is no, for {count} reason{'s' if count != 1 else ''}."]
         if len(faults) > 1:
             headline.append(f"Begin with `{faults[0].text}`, which has the least time: others may come of it.")
-        headline += falling_mirror_words(diagnosis)
+        headline += unstable_mirror_words(diagnosis)
         headline += whole_run_words(diagnosis, report.faults)
     headline.append(f"The certificate has {report.module_count} module{'s' if report.module_count != 1 else ''}; its "
                     f"digest is {report.digest[:16]}..")
@@ -170,21 +170,22 @@ def yes_words(count: int) -> str:
     return f"The verdict is yes: for each choice of the {count} inputs the layout computes the circuit."
 
 
-def falling_mirror_words(diagnosis: Diagnosis) -> list[str]:
+def unstable_mirror_words(diagnosis: DiagnosticRuns) -> list[str]:
     """Returns which mirrors fall apart by themselves."""
-    fallen = falling_mirrors(diagnosis.layout)
+    unstable = unstable_mirrors(diagnosis.layout)
     words = [f"The mirror of line {own.mirror.line} (`{diagnosis.document.line(own.mirror.line)}`) falls apart by "
              f"itself: step {own.step} "
-             f"moves its cell {cell_words(own.cell)}." for own in fallen[:MAX_NAMED_MIRRORS]]
-    if len(fallen) > MAX_NAMED_MIRRORS:
-        words.append(f"{len(fallen) - MAX_NAMED_MIRRORS} more mirrors do.")
-    if fallen:
+             f"moves its cell {cell_words(own.cell)}." for own in unstable[:MAX_NAMED_MIRRORS]]
+    if len(unstable) > MAX_NAMED_MIRRORS:
+        words.append(f"{len(unstable) - MAX_NAMED_MIRRORS} more mirrors do.")
+    if unstable:
         words.append("A mirror stays if its width and height are even and its upper left cell has exactly one odd "
                      "coordinate.")
     return words
 
 
-def add_fixes(explanation: ExplainedAnswer, diagnosis: Diagnosis, report: ReportOrRefusal, trial: TrialRunner) -> None:
+def add_fixes(explanation: ExplainedAnswer, diagnosis: DiagnosticRuns, report: ReportOrRefusal,
+              trial: TrialRunner) -> None:
     """Adds a fix of the whole text and fixes of lines of the report; each was tried."""
     trial.begin_search()
     fixer = Fixer(diagnosis.document.text, report, trial, diagnosis)
@@ -213,27 +214,27 @@ def fix_document(before: ReportOrRefusal, fix: Fix) -> FixDocument:
 
 def tried_in_vain_words(fixer: Fixer, trial: TrialRunner) -> list[str]:
     """Returns what was tried in vain."""
-    is_cut_short = fixer.is_cut_short or trial.is_over()
+    is_cut_short = fixer.is_cut_short or trial.is_budget_used_up()
     end = " The search was ended by a limit, so some edits were not tried." if is_cut_short else ""
     kinds = [f"Kinds of edits that the search came to: {'; '.join(fixer.kinds)}."] if fixer.kinds else []
     return [f"No fix was found. {trial.tries} text{'s were' if trial.tries != 1 else ' was'} checked by "
             f"{trial.judge_words}.{end}", *kinds]
 
 
-def whole_run_words(diagnosis: Diagnosis, faults: list[ReportLine]) -> list[str]:
+def whole_run_words(diagnosis: DiagnosticRuns, faults: list[ReportLine]) -> list[str]:
     """Returns whether the whole run ends as the layout asks with a dead rim: a sentence for yes, no, and what was not
     found out."""
-    outcome, values = diagnosis.whole_outcome, diagnosis.wire_tables
+    outcome, values = diagnosis.whole_run_outcome, diagnosis.wire_tables
     if outcome.correctness is Tristate.NO:
         return [outcome.why_no_yes]
     if not diagnosis.can_run_whole():
-        why = "it takes too long" if diagnosis.is_slow else f"it is longer than {MAX_STEPS} steps"
+        why = "it takes too long" if diagnosis.is_slow else f"it is longer than {MAX_WHOLE_RUN_STEPS} steps"
         return [f"The whole run was not tried to its end here: {why}."]
     if values.defined_columns != values.full:
         return ["The circuit has no values under some choices of its inputs. Under the others that were tried "
-                f"({diagnosis.choices_words}) the whole run "
+                f"({diagnosis.tried_choices_words}) the whole run "
                 "ends as the layout asks."]
-    tried = f"The whole run was tried here {diagnosis.choices_words}: it ends as the layout asks"
+    tried = f"The whole run was tried here {diagnosis.tried_choices_words}: it ends as the layout asks"
     if outcome.correctness is Tristate.UNKNOWN:
         return [f"{tried}. The other choices were not tried."]
     is_certificate = any(finding.word in ("local", "border") for finding in faults)
@@ -246,7 +247,7 @@ def missing_certificate_words(document: Document) -> list[str]:
     design = replace(document, certificate=Certificate())
     if design.circuit is None or design.layout is None or document.certificate and document.certificate.modules:
         return []
-    outcome = Diagnosis(design).whole_outcome
+    outcome = DiagnosticRuns(design).whole_run_outcome
     if outcome.correctness is Tristate.NO:
         return [outcome.why_no_yes]
     return ["The text has no certificate. In the choices of the inputs that were tried the whole run ends as the "
@@ -289,7 +290,7 @@ def explain_run(document: Document, output: str, file: str) -> ExplainedAnswer:
     return ExplainedAnswer(file, "run", headline, word)
 
 
-def undefined_gate(circuit: Circuit, output: str) -> int | None:
+def undefined_gate_number(circuit: Circuit, output: str) -> int | None:
     """Returns the gate without a row that an answer of `value` ends with, or None.
 
     A wire can have the name `undefined` too.
@@ -302,7 +303,7 @@ def undefined_gate(circuit: Circuit, output: str) -> int | None:
 def explain_value(document: Document, output: str, file: str) -> ExplainedAnswer:
     """Returns the answer of `value` in words."""
     assert document.circuit
-    number = undefined_gate(document.circuit, output)
+    number = undefined_gate_number(document.circuit, output)
     values = dict(line.split(" ") for line in output.splitlines()[:None if number is None else -1])
     true = names_words([name for name, value in values.items() if value == "1"], 40) or "none"
     headline = [f"With {names_words(document.on or []) or 'none of the inputs'} on, these wires are true: {true}."]
@@ -314,7 +315,7 @@ def explain_value(document: Document, output: str, file: str) -> ExplainedAnswer
     return ExplainedAnswer(file, "value", headline, "values" if number is None else "undefined")
 
 
-def explain_listing(command: str, output: str, file: str) -> ExplainedAnswer:
+def explain_modules_or_migrate(command: str, output: str, file: str) -> ExplainedAnswer:
     """Returns the answer of `modules` or `migrate`, which refused nothing, in words."""
     if command == "modules":
         count = len(output.splitlines())
@@ -331,7 +332,7 @@ def require_answer_to_text(document: Document, output: str) -> None:
     if document.refusal:
         raise ReportError("the answer is not of this text: the lab's reader refuses the text")
     circuit = document.circuit
-    number = undefined_gate(circuit, output) if document.command == "value" and circuit else None
+    number = undefined_gate_number(circuit, output) if document.command == "value" and circuit else None
     if circuit and number is not None:
         names = {line.split(" ")[0] for line in output.splitlines()[:-1]}
         if number >= len(circuit.gates) or not set(circuit.gates[number].ins) <= names:
@@ -349,11 +350,11 @@ def explain_answer(text: str, command: str, output: str, file: str, trial: Trial
         return explain_report(document, parse_report(output), file, trial)
     require_answer_to_text(document, output)
     if command in ("modules", "migrate"):
-        return explain_listing(command, output, file)
+        return explain_modules_or_migrate(command, output, file)
     return explain_run(document, output, file) if command == "run" else explain_value(document, output, file)
 
 
-def as_json(explanation: ExplainedAnswer) -> str:
+def explanation_json_text(explanation: ExplainedAnswer) -> str:
     """Writes an explanation as one JSON document."""
     members = asdict(explanation)
     del members["fixed"]
@@ -362,7 +363,7 @@ def as_json(explanation: ExplainedAnswer) -> str:
     return json.dumps({"format": "bbmlab explanation 2", **members}, indent=2, ensure_ascii=True)
 
 
-def as_gcc(explanation: ExplainedAnswer) -> list[str]:
+def gcc_error_lines(explanation: ExplainedAnswer) -> list[str]:
     """Writes an explanation as `file:line: error: text` lines for editors.
 
     A control character, also one of the file's name, is an escape.

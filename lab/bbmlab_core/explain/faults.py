@@ -5,11 +5,11 @@ from typing import Any
 
 from ..physics.mirrors import is_stable
 from ..texts.cell_pictures import text_picture
-from ..texts.certificates import Border, Module, Stop, certificate_line_text
+from ..texts.certificates import Border, Module, Stop, border_or_stop_text
 from ..texts.circuits import evaluate_gates
 from ..texts.layouts import Cell
 from ..texts.reports import ReportLine, parse_finding
-from .diagnosis import Diagnosis, RunDifference, AssignmentOccurrence, Signal, Tristate
+from .diagnosis import DiagnosticRuns, RunDifference, AssignmentOccurrence, FoundSignal, Tristate
 
 
 @dataclass
@@ -49,7 +49,7 @@ def cell_words(cell: Cell) -> str:
     return f"({cell[0]}, {cell[1]})"
 
 
-def wire_value(diagnosis: Diagnosis, module: Module, name: str, assignment: int) -> int:
+def wire_value(diagnosis: DiagnosticRuns, module: Module, name: str, assignment: int) -> int:
     """Returns the value of a local wire under an assignment of the cuts."""
     if name == "1":
         return 1
@@ -57,10 +57,10 @@ def wire_value(diagnosis: Diagnosis, module: Module, name: str, assignment: int)
     return values.tables[name] >> assignment & 1
 
 
-def wanted_state(diagnosis: Diagnosis, module: Module, finding: ReportLine) -> WantedState:
+def wanted_state(diagnosis: DiagnosticRuns, module: Module, finding: ReportLine) -> WantedState:
     """Returns what the cell of a `local` line is to be."""
-    cell, time = (finding.number("x"), finding.number("y")), finding.number("time")
-    assignment, kind = finding.number("assignment"), finding.values["kind"]
+    cell, time = (finding.number_value("x"), finding.number_value("y")), finding.number_value("time")
+    assignment, kind = finding.number_value("assignment"), finding.values["kind"]
     if kind == "end":
         return wanted_end_state(diagnosis, module, cell, assignment)
     line: Border | Stop | None
@@ -75,14 +75,14 @@ def wanted_state(diagnosis: Diagnosis, module: Module, finding: ReportLine) -> W
         return WantedState(False, why, None)
     name = line.name if isinstance(line, Stop) else line.signal
     value = wire_value(diagnosis, module, name, assignment)
-    at, text = module.line_number(str(kind), line), certificate_line_text(str(kind), line)
+    at, text = module.line_number(str(kind), line), border_or_stop_text(str(kind), line)
     why = f"line {at} (`{text}`) says: live if and only if `{name}` is true, and `{name}` is {value} here"
     if name == "1":
         why = f"line {at} (`{text}`) says: always live"
     return WantedState(bool(value), why, at, text)
 
 
-def wanted_end_state(diagnosis: Diagnosis, module: Module, cell: Cell, assignment: int) -> WantedState:
+def wanted_end_state(diagnosis: DiagnosticRuns, module: Module, cell: Cell, assignment: int) -> WantedState:
     """Returns what the layout asks of a cell at the last time."""
     part = diagnosis.layout.part_at(cell, ("mirror", "out"))
     if part is None:
@@ -98,10 +98,11 @@ def wanted_end_state(diagnosis: Diagnosis, module: Module, cell: Cell, assignmen
                        part.line, text)
 
 
-def occurrence_words(diagnosis: Diagnosis, occurrence: AssignmentOccurrence, names: str) -> str:
+def occurrence_words(diagnosis: DiagnosticRuns, occurrence: AssignmentOccurrence, names: str) -> str:
     """Returns whether an assignment occurs, in words."""
     if occurrence.occurs is Tristate.UNKNOWN:
-        return f"No choice that gives these values was found {diagnosis.choices_words}; the others were not tried."
+        return (f"No choice that gives these values was found {diagnosis.tried_choices_words}; the others were not "
+                "tried.")
     if occurrence.occurs is Tristate.NO:
         return f"The circuit never gives {names}: no choice of its inputs does."
     if not occurrence.inputs:
@@ -111,14 +112,14 @@ def occurrence_words(diagnosis: Diagnosis, occurrence: AssignmentOccurrence, nam
             else f"{example}.")
 
 
-def explain_local(diagnosis: Diagnosis, finding: ReportLine) -> ExplainedLine:
+def explain_local(diagnosis: DiagnosticRuns, finding: ReportLine) -> ExplainedLine:
     """Returns a `local` line in words."""
-    module, time = diagnosis.module_of_finding(finding), finding.number("time")
-    cell, assignment = (finding.number("x"), finding.number("y")), finding.number("assignment")
+    module, time = diagnosis.module_of_finding(finding), finding.number_value("time")
+    cell, assignment = (finding.number_value("x"), finding.number_value("y")), finding.number_value("assignment")
     wanted = wanted_state(diagnosis, module, finding)
     values = module.cut_values(assignment)
     names = assignment_words(values)
-    occurrence = diagnosis.occurrence(module, assignment)
+    occurrence = diagnosis.assignment_occurrence(module, assignment)
     found, want = ("dead", "live") if wanted.is_live else ("live", "dead")
     last = ", the last time," if finding.values["kind"] == "end" else ""
     entry = ExplainedLine(finding.text, True, [
@@ -148,10 +149,10 @@ def explain_local(diagnosis: Diagnosis, finding: ReportLine) -> ExplainedLine:
     return entry
 
 
-def add_never_occurring_cause(diagnosis: Diagnosis, module: Module, entry: ExplainedLine) -> None:
+def add_never_occurring_cause(diagnosis: DiagnosticRuns, module: Module, entry: ExplainedLine) -> None:
     """Adds the cause of a fault under an assignment that never occurs: the cuts, or a fault under assignments that do
     occur."""
-    fault = diagnosis.occurring_fault(module)
+    fault = diagnosis.fault_under_occurring_assignments(module)
     if fault is None:
         entry.cause = "never_occurs"
         entry.what.append("Under the values that do occur the module has no fault.")
@@ -163,18 +164,18 @@ def add_never_occurring_cause(diagnosis: Diagnosis, module: Module, entry: Expla
                       f"{cell_words((fault.x, fault.y))}.")
     entry.facts["fault_that_occurs"] = {"kind": fault.kind, "time": fault.time, "cell": [fault.x, fault.y],
                                         "assignment": module.cut_values(fault.assignment)}
-    finding = parse_finding(f"local {module.number} {fault.report_words()}")
-    add_occurring_cause(diagnosis, module, finding, entry, diagnosis.occurrence(module, fault.assignment))
+    finding = parse_finding(f"local {module.number} {fault.text_in_report()}")
+    add_occurring_cause(diagnosis, module, finding, entry, diagnosis.assignment_occurrence(module, fault.assignment))
 
 
-def add_occurring_cause(diagnosis: Diagnosis, module: Module, finding: ReportLine, entry: ExplainedLine,
+def add_occurring_cause(diagnosis: DiagnosticRuns, module: Module, finding: ReportLine, entry: ExplainedLine,
                         occurrence: AssignmentOccurrence) -> None:
     """Adds the cause of a fault under an assignment that occurs: what the module hears, its line, or the layout."""
-    assignment, time = finding.number("assignment"), finding.number("time")
-    cell = finding.number("x"), finding.number("y")
+    assignment, time = finding.number_value("assignment"), finding.number_value("time")
+    cell = finding.number_value("x"), finding.number_value("y")
     difference = diagnosis.first_difference(module, assignment, occurrence.inputs, time)
     if difference:
-        explain_run_difference(diagnosis, module, entry, difference)
+        add_run_difference(diagnosis, module, entry, difference)
     elif diagnosis.layout.is_rim(cell) and finding.values["kind"] == "edge":
         entry.cause = "rim"
         entry.what.append("The run of the whole layout has the cell live then too. No certificate allows that: balls "
@@ -192,8 +193,8 @@ def add_occurring_cause(diagnosis: Diagnosis, module: Module, finding: ReportLin
         entry.what += signal_words(diagnosis, diagnosis.signal_of(cell, time), "the cell")
 
 
-def explain_run_difference(diagnosis: Diagnosis, module: Module, entry: ExplainedLine,
-                           difference: RunDifference) -> None:
+def add_run_difference(diagnosis: DiagnosticRuns, module: Module, entry: ExplainedLine,
+                       difference: RunDifference) -> None:
     """Adds where a module's run leaves the whole one, and the cells of its halo that it does not hear so."""
     entry.cause = "not_heard"
     entry.facts["differs"] = {"time": difference.time, "cell": list(difference.cell)}
@@ -204,7 +205,7 @@ def explain_run_difference(diagnosis: Diagnosis, module: Module, entry: Explaine
         entry.what += misheard_words(diagnosis, module, cell, difference.heard_time, is_live)
 
 
-def misheard_words(diagnosis: Diagnosis, module: Module, cell: Cell, time: int, is_live: bool) -> list[str]:
+def misheard_words(diagnosis: DiagnosticRuns, module: Module, cell: Cell, time: int, is_live: bool) -> list[str]:
     """Returns how the whole run has a cell next to a module, and which line says otherwise."""
     certificate, owner = diagnosis.certificate, diagnosis.certificate.owner(cell)
     if owner is None:
@@ -212,19 +213,19 @@ def misheard_words(diagnosis: Diagnosis, module: Module, cell: Cell, time: int, 
     kind, teller = ("halo", module) if certificate.version == 1 else ("edge", owner)
     line = teller.line_at(kind, time, cell)
     state = "live" if is_live else "dead"
-    against = (f"against line {teller.line_number(kind, line)} (`{certificate_line_text(kind, line)}`)" if line
+    against = (f"against line {teller.line_number(kind, line)} (`{border_or_stop_text(kind, line)}`)" if line
                else f"and module {teller.number} has no `{kind}` line for it")
     return [f"At time {time} the cell {cell_words(cell)} of module {owner.number} is {state} in the whole run, "
             f"{against}.",
             *signal_words(diagnosis, diagnosis.signal_of(cell, time), "it")]
 
 
-def signal_words(diagnosis: Diagnosis, signal: Signal, cell: str) -> list[str]:
+def signal_words(diagnosis: DiagnosticRuns, signal: FoundSignal, cell: str) -> list[str]:
     """Returns which wire a cell has the values of, in words: a wire, none, or not found out."""
     if signal.known is Tristate.UNKNOWN:
         return [
             f"Which wire {cell} carries then was not found out: the whole run is too long, or leaves the rectangle."]
-    scope = "" if diagnosis.wire_tables.is_all else f" {diagnosis.choices_words}"
+    scope = "" if diagnosis.wire_tables.is_all else f" {diagnosis.tried_choices_words}"
     if signal.known is Tristate.NO:
         return [f"No wire of the circuit is true in just the choices of the inputs in which {cell} is live then."]
     if signal.name in ("0", "1"):
@@ -232,12 +233,12 @@ def signal_words(diagnosis: Diagnosis, signal: Signal, cell: str) -> list[str]:
     return [f"In the whole run {cell} is live then if and only if `{signal.name}` is true{scope}."]
 
 
-def explain_keep(diagnosis: Diagnosis, finding: ReportLine) -> ExplainedLine:
+def explain_keep(diagnosis: DiagnosticRuns, finding: ReportLine) -> ExplainedLine:
     """Returns a `keep` line in words."""
-    module, gate = diagnosis.module_of_finding(finding), diagnosis.circuit.gates[finding.number("gate")]
-    assignment = finding.number("assignment")
+    module, gate = diagnosis.module_of_finding(finding), diagnosis.circuit.gates[finding.number_value("gate")]
+    assignment = finding.number_value("assignment")
     values = module.cut_values(assignment)
-    occurrence = diagnosis.occurrence(module, assignment)
+    occurrence = diagnosis.assignment_occurrence(module, assignment)
     ins = {name: wire_value(diagnosis, module, name, assignment) for name in gate.ins}
     keeps = module.line_number("keep", gate.number)
     entry = ExplainedLine(finding.text, True, [
@@ -263,14 +264,14 @@ def border_line_words(line: Border | None, kind: str, module: Module) -> str:
     """Returns what a line about a border says."""
     if line is None:
         return f"module {module.number} has no `{kind}` line for it"
-    text = certificate_line_text(kind, line)
+    text = border_or_stop_text(kind, line)
     return f"line {module.line_number(kind, line)} of module {module.number} says `{text}`"
 
 
-def explain_border(diagnosis: Diagnosis, finding: ReportLine) -> ExplainedLine:
+def explain_border(diagnosis: DiagnosticRuns, finding: ReportLine) -> ExplainedLine:
     """Returns a `border` line in words."""
-    module, time = diagnosis.module_of_finding(finding), finding.number("time")
-    cell = finding.number("x"), finding.number("y")
+    module, time = diagnosis.module_of_finding(finding), finding.number_value("time")
+    cell = finding.number_value("x"), finding.number_value("y")
     owner = diagnosis.certificate.owner(cell)
     assert owner is not None
     halo, edge = module.line_at("halo", time, cell), owner.line_at("edge", time, cell)
@@ -281,7 +282,7 @@ def explain_border(diagnosis: Diagnosis, finding: ReportLine) -> ExplainedLine:
         line=module.line_number("halo", halo) if halo else owner.line_number("edge", edge) if edge else None,
         cause="border")
     entry.facts = {"module": module.number, "owner": owner.number, "time": time, "cell": list(cell),
-                   "halo": certificate_line_text("halo", halo) if halo else None,
-                   "edge": certificate_line_text("edge", edge) if edge else None}
+                   "halo": border_or_stop_text("halo", halo) if halo else None,
+                   "edge": border_or_stop_text("edge", edge) if edge else None}
     entry.what += signal_words(diagnosis, diagnosis.signal_of(cell, time), "the cell")
     return entry

@@ -11,11 +11,11 @@ from itertools import combinations
 from typing import Iterable, Iterator
 
 from ..host.processor import processor_seconds
-from ..physics.simulation import Table, WholeRun, cell_of, end_tables, key_of
+from ..physics.simulation import TruthTable, WholeRun, cell_of, key_of, required_end_tables
 from ..texts.circuits import Circuit, Gate, WireTables, evaluate_all, evaluate_all_or_samples
-from ..texts.layouts import Cell, Layout, Part, cells_of
-from ..texts.limits import limits_of
-from .diagnosis import MAX_EXHAUSTIVE_INPUTS, MAX_STEPS
+from ..texts.layouts import Cell, Layout, LayoutPart, cells_of_rectangle
+from ..texts.limits import limits_of_text
+from .diagnosis import MAX_EXHAUSTIVE_INPUTS, MAX_WHOLE_RUN_STEPS
 from .edits import Edit, addition, deletion, insertion_line_in_section, replacement
 from .meeting_places import cells_where_runs_differ_least, start_of_wanted_end
 
@@ -43,10 +43,10 @@ def values_in_few_choices(circuit: Circuit) -> WireTables:
     return evaluate_all_or_samples(circuit, FEW_EXHAUSTIVE_INPUTS, SAMPLE_COUNT)
 
 
-def wrong_cells(circuit_values: WireTables, layout: Layout, live: dict[int, Table]) -> dict[int, Table]:
+def wrong_cells(circuit_values: WireTables, layout: Layout, live: dict[int, TruthTable]) -> dict[int, TruthTable]:
     """Returns the cells that do not end as the layout asks, with the columns in which they do not."""
     wanted = {key_of(cell): table for cell,
-              table in end_tables(layout, circuit_values.tables, circuit_values.full).items()}
+              table in required_end_tables(layout, circuit_values.tables, circuit_values.full).items()}
     wrong = {}
     for key in wanted.keys() | live.keys():
         table = wanted.get(key, 0)
@@ -61,7 +61,7 @@ class Testbench:
 
     def __init__(self, text: str, circuit: Circuit, layout: Layout, seconds: float = 20.0,
                  near: Cell | None = None) -> None:
-        self.circuit, self.layout, self.lines, self.limits = circuit, layout, text.split("\n"), limits_of(text)
+        self.circuit, self.layout, self.lines, self.limits = circuit, layout, text.split("\n"), limits_of_text(text)
         self.end = processor_seconds() + seconds
         # The cell at which the first fault was found; what lies near it is tried first.
         self.near = near
@@ -70,18 +70,19 @@ class Testbench:
         self.all_values = self.values if self.values.is_all or len(circuit.inputs) > MAX_EXHAUSTIVE_INPUTS else \
             evaluate_all(circuit)
         self.touched: dict[int, int] = {}
-        self.last = self.last_state(layout, self.values, notes=True)
+        self.last = self.live_cells_at_end(layout, self.values, notes=True)
 
-    def is_over(self) -> bool:
+    def is_out_of_time(self) -> bool:
         """Whether the seconds are used up, or a run would be too long."""
-        return processor_seconds() > self.end or self.layout.steps > MAX_STEPS
+        return processor_seconds() > self.end or self.layout.steps > MAX_WHOLE_RUN_STEPS
 
-    def last_state(self, layout: Layout, values: WireTables, notes: bool = False) -> dict[int, Table] | None:
+    def live_cells_at_end(self, layout: Layout, values: WireTables,
+                          notes: bool = False) -> dict[int, TruthTable] | None:
         """Returns the live cells after the last step, or None if a step leaves the rectangle or the seconds are used
         up."""
         run = WholeRun(layout, values.tables, values.full)
         while run.time < layout.steps:
-            if not run.step() or self.is_over():
+            if not run.step() or self.is_out_of_time():
                 return None
             if notes:
                 for key in run.field.changed:
@@ -99,7 +100,7 @@ class Testbench:
                 values = evaluate_all(change.circuit)
             else:
                 values = values_in_few_choices(change.circuit)
-            live = self.last_state(change.layout, values)
+            live = self.live_cells_at_end(change.layout, values)
             if live is None or wrong_cells(values, change.layout, live):
                 return False
             if self.values.is_all:
@@ -107,15 +108,15 @@ class Testbench:
         return True
 
     @cached_property
-    def parts_by_taken_cell(self) -> tuple[dict[Cell, Part], dict[Cell, Part]]:
+    def start_and_end_parts_by_cell(self) -> tuple[dict[Cell, LayoutPart], dict[Cell, LayoutPart]]:
         """The parts that take cells at the start, and those that take cells at the end."""
         starts = {cell: part for part in self.layout.parts if part.kind in START_PART_KINDS for cell in part.cells()}
         ends = {cell: part for part in self.layout.parts if part.kind in END_PART_KINDS for cell in part.cells()}
         return starts, ends
 
-    def is_possible(self, new: list[Part], removed: set[Part]) -> bool:
+    def can_place_parts(self, new: list[LayoutPart], removed: set[LayoutPart]) -> bool:
         """Whether new parts lie in the rectangle and share no cell that only one part may take."""
-        for kinds, taken in zip((START_PART_KINDS, END_PART_KINDS), self.parts_by_taken_cell):
+        for kinds, taken in zip((START_PART_KINDS, END_PART_KINDS), self.start_and_end_parts_by_cell):
             cells = [cell for part in new if part.kind in kinds for cell in part.cells()]
             if len(set(cells)) < len(cells) or any(cell in taken and taken[cell] not in removed for cell in cells):
                 return False
@@ -123,12 +124,12 @@ class Testbench:
                    and part.y + part.height <= self.layout.height
                    for part in new)
 
-    def change_if_possible(self, swaps: dict[Part, Part], more: Iterable[Part] = (),
-                           gone: Iterable[Part] = ()) -> list[DesignChange]:
+    def possible_change_as_list(self, swaps: dict[LayoutPart, LayoutPart], more: Iterable[LayoutPart] = (),
+                                gone: Iterable[LayoutPart] = ()) -> list[DesignChange]:
         """Returns the change that moves parts, adds some and drops some, or none if cells would be taken twice or lie
         outside."""
         dropped, added = set(gone), list(more)
-        if not self.is_possible([*swaps.values(), *added], dropped | swaps.keys()):
+        if not self.can_place_parts([*swaps.values(), *added], dropped | swaps.keys()):
             return []
         parts = [swaps.get(part, part) for part in self.layout.parts if part not in dropped] + added
         edits = [replacement(part.line, str(new)) for part, new in swaps.items()]
@@ -140,9 +141,9 @@ class Testbench:
     def suspect_cells(self) -> list[Cell]:
         """The cells at which something is likely wrong: where the run and the run backwards from the wanted end are
         nearest to each other."""
-        return [] if self.is_over() else cells_where_runs_differ_least(self.layout, self.values)
+        return [] if self.is_out_of_time() else cells_where_runs_differ_least(self.layout, self.values)
 
-    def distance_to_fault(self, part: Part) -> int:
+    def distance_to_fault(self, part: LayoutPart) -> int:
         """Returns how far a part lies from the places at which something is likely wrong, or from the first fault."""
         cells = self.suspect_cells or ([self.near] if self.near else [])
         return min((max(part.x - cell[0], cell[0] - part.x - part.width + 1, part.y - cell[1],
@@ -150,7 +151,7 @@ class Testbench:
                     for cell in cells), default=0)
 
 
-def shifted_part(part: Part, dx: int, dy: int) -> Part:
+def shifted_part(part: LayoutPart, dx: int, dy: int) -> LayoutPart:
     """Returns a part at another place."""
     return part._replace(x=part.x + dx, y=part.y + dy)
 
@@ -199,7 +200,7 @@ def output_place_changes(bench: Testbench, reach: int | None, is_exchange: bool 
     taken = {part.cell for part in bench.layout.of_kind("out") if part not in outs} | bench.layout.mirror_cells()
     places = [(cell_of(key), table) for key, table in sorted(bench.last.items()) if bench.layout.has(cell_of(key))]
     own = {part.cell for part in outs}
-    swaps: dict[Part, Part] = {}
+    swaps: dict[LayoutPart, LayoutPart] = {}
     for part in outs:
         table = bench.values.tables[part.name or ""]
         cells = [cell for cell, other in places if other == table and cell not in taken
@@ -215,15 +216,15 @@ def output_place_changes(bench: Testbench, reach: int | None, is_exchange: bool 
     wastes = [part_for_stray_ball(bench, cell, table) for cell, table in places if key_of(cell) in wrong
               and cell not in taken | covered]
     if len(swaps) + len(wastes) + len(freed) <= MAX_CHANGE_LINES and (swaps or wastes):
-        yield from bench.change_if_possible(swaps, wastes, freed)
+        yield from bench.possible_change_as_list(swaps, wastes, freed)
 
 
-def part_for_stray_ball(bench: Testbench, cell: Cell, table: Table) -> Part:
+def part_for_stray_ball(bench: Testbench, cell: Cell, table: TruthTable) -> LayoutPart:
     """Returns the part for a ball that no line asks for: the second cell of an `out`, or else `waste`."""
     name = next((part.name for part in bench.layout.of_kind("out")
                  if abs(part.x - cell[0]) == abs(part.y - cell[1]) == 2
                  and bench.values.tables[part.name or ""] == table), None)
-    return Part("waste" if name is None else "out", name, *cell)
+    return LayoutPart("waste" if name is None else "out", name, *cell)
 
 
 def added_output_changes(bench: Testbench) -> Iterator[DesignChange]:
@@ -233,13 +234,13 @@ def added_output_changes(bench: Testbench) -> Iterator[DesignChange]:
         return
     wrong = wrong_cells(bench.values, bench.layout, bench.last)
     named = {part.name for part in bench.layout.of_kind("out")}
-    new: list[Part] = []
+    new: list[LayoutPart] = []
     for name in (name for name in bench.circuit.outputs if name not in named):
         cells = [cell_of(key) for key in sorted(wrong) if bench.last.get(key) == bench.values.tables[name]
                  and bench.layout.has(cell_of(key))]
-        new += [Part("out", name, *cell) for cell in cells if cell not in {part.cell for part in new}]
+        new += [LayoutPart("out", name, *cell) for cell in cells if cell not in {part.cell for part in new}]
     if new and len(new) <= MAX_CHANGE_LINES:
-        yield from bench.change_if_possible({}, new)
+        yield from bench.possible_change_as_list({}, new)
 
 
 def output_exchanges(bench: Testbench) -> Iterator[DesignChange]:
@@ -254,21 +255,21 @@ def output_exchanges(bench: Testbench) -> Iterator[DesignChange]:
             swaps = {part: part._replace(name=two if part.name == one else one) for part in outs
                      if part.name in (one, two)}
             if len(swaps) <= MAX_CHANGE_LINES:
-                yield from bench.change_if_possible(swaps)
+                yield from bench.possible_change_as_list(swaps)
     for one in names:
         for two in bench.circuit.outputs:
             for part in (part for part in outs if part.name == one and two != one):
-                yield from bench.change_if_possible({part: part._replace(name=two)})
+                yield from bench.possible_change_as_list({part: part._replace(name=two)})
 
 
 def step_count_changes(bench: Testbench) -> Iterator[DesignChange]:
     """Yields other numbers of steps at which the run is as the layout asks, the nearest first."""
     steps, good = bench.layout.steps, []
     run = WholeRun(bench.layout, bench.values.tables, bench.values.full)
-    for _ in range(min(2 * steps + 16, MAX_STEPS)):
+    for _ in range(min(2 * steps + 16, MAX_WHOLE_RUN_STEPS)):
         if not wrong_cells(bench.values, bench.layout, run.field.live):
             good.append(run.time)
-        if not run.step() or bench.is_over():
+        if not run.step() or bench.is_out_of_time():
             break
     header = next(number for number, line in enumerate(bench.lines, 1) if line.startswith("layout "))
     for time in sorted(good, key=lambda time: abs(time - steps)):
@@ -282,7 +283,7 @@ def enlarged_layout_changes(bench: Testbench) -> Iterator[DesignChange]:
     between."""
     layout = bench.layout
     if not any(layout.is_rim(cell_of(key)) for key in bench.touched) and not any(
-            layout.is_rim(cell) for cell in bench.parts_by_taken_cell[0]):
+            layout.is_rim(cell) for cell in bench.start_and_end_parts_by_cell[0]):
         return
     if max(layout.width, layout.height) + 4 > bench.limits.max_side:
         return
@@ -296,9 +297,9 @@ def enlarged_layout_changes(bench: Testbench) -> Iterator[DesignChange]:
 
 # ---- the start, by the run backwards
 
-def start_changes(bench: Testbench) -> Iterator[DesignChange]:
+def start_state_changes(bench: Testbench) -> Iterator[DesignChange]:
     """Yields the change of `in` and `ball` lines after which the start is that from which the wanted end comes."""
-    if bench.is_over():
+    if bench.is_out_of_time():
         return
     last = bench.last if bench.last is not None else {}
     start = start_of_wanted_end(bench.layout, bench.values, last)
@@ -310,25 +311,25 @@ def start_changes(bench: Testbench) -> Iterator[DesignChange]:
     if len(differing) > MAX_CHANGE_LINES:
         return
     names = {bench.values.tables[name]: name for name in reversed(bench.circuit.inputs)}
-    new: list[Part] = []
+    new: list[LayoutPart] = []
     for key in (key for key in differing if start.get(key)):
         kind = "ball" if start[key] == full else "in"
         if kind == "in" and start[key] not in names:
             return
-        new.append(Part(kind, None if kind == "ball" else names[start[key]], *cell_of(key)))
+        new.append(LayoutPart(kind, None if kind == "ball" else names[start[key]], *cell_of(key)))
     yield from replaced_part_changes(bench, [parts[key] for key in differing if key in parts], new)
 
 
-def replaced_part_changes(bench: Testbench, gone: list[Part], new: list[Part]) -> Iterator[DesignChange]:
+def replaced_part_changes(bench: Testbench, gone: list[LayoutPart], new: list[LayoutPart]) -> Iterator[DesignChange]:
     """Yields the change that drops parts and adds others; parts of one kind and name are moved."""
-    swaps: dict[Part, Part] = {}
+    swaps: dict[LayoutPart, LayoutPart] = {}
     for part in list(gone):
         other = next((other for other in new if (other.kind, other.name) == (part.kind, part.name)), None)
         if other:
             swaps[part] = shifted_part(part, other.x - part.x, other.y - part.y)
             gone.remove(part)
             new.remove(other)
-    yield from (change for change in bench.change_if_possible(swaps, new, gone) if change.edits)
+    yield from (change for change in bench.possible_change_as_list(swaps, new, gone) if change.edits)
 
 
 def moved_part_changes(bench: Testbench, kinds: tuple[str, ...], reach: int = 2) -> Iterator[DesignChange]:
@@ -345,10 +346,10 @@ def moved_part_changes(bench: Testbench, kinds: tuple[str, ...], reach: int = 2)
                 if (part.kind == "mirror" and has_mirror_parity(part)
                         and not has_mirror_parity(shifted_part(part, dx, dy))):
                     continue
-                yield from bench.change_if_possible({member: shifted_part(member, dx, dy) for member in group})
+                yield from bench.possible_change_as_list({member: shifted_part(member, dx, dy) for member in group})
 
 
-def has_mirror_parity(part: Part) -> bool:
+def has_mirror_parity(part: LayoutPart) -> bool:
     """Whether a mirror has the form that is sure to stay: even sides, and exactly one odd coordinate."""
     return part.width % 2 == 0 and part.height % 2 == 0 and part.x % 2 != part.y % 2
 
@@ -360,7 +361,7 @@ def removed_part_changes(bench: Testbench) -> Iterator[DesignChange]:
         is_port = part.kind in ("in", "out")
         if part.kind in ("ball", "mirror") or is_port and sum((other.kind, other.name) == (part.kind, part.name)
                                                               for other in ports) > 1:
-            yield from bench.change_if_possible({}, (), [part])
+            yield from bench.possible_change_as_list({}, (), [part])
 
 
 def added_ball_changes(bench: Testbench) -> Iterator[DesignChange]:
@@ -371,7 +372,7 @@ def added_ball_changes(bench: Testbench) -> Iterator[DesignChange]:
     if bench.layout.width * bench.layout.height <= 1600:
         cells += [(x, y) for y in range(bench.layout.height) for x in range(bench.layout.width)]
     for cell in dict.fromkeys(cells):
-        yield from bench.change_if_possible({}, [Part("ball", None, *cell)])
+        yield from bench.possible_change_as_list({}, [LayoutPart("ball", None, *cell)])
 
 
 def added_mirror_changes(bench: Testbench, is_near: bool) -> Iterator[DesignChange]:
@@ -389,8 +390,8 @@ def added_mirror_changes(bench: Testbench, is_near: bool) -> Iterator[DesignChan
     seen = set()
     for x, y in map(cell_of, keys):
         for width, height in sizes:
-            for u, v in cells_of(x - width + 1, y - height + 1, width, height):
-                part = Part("mirror", None, u, v, width, height)
+            for u, v in cells_of_rectangle(x - width + 1, y - height + 1, width, height):
+                part = LayoutPart("mirror", None, u, v, width, height)
                 if part not in seen and has_mirror_parity(part):
                     seen.add(part)
-                    yield from bench.change_if_possible({}, [part])
+                    yield from bench.possible_change_as_list({}, [part])

@@ -4,7 +4,7 @@ Each step of the automaton is its own inverse (Margolus 1984), so the wanted end
 missing or wrong, the two runs agree nearly everywhere at the time at which a ball should be at that mirror.
 """
 
-from ..physics.simulation import LiveCells, Table, cell_of, end_tables, key_of, start_tables
+from ..physics.simulation import LiveCells, TruthTable, cell_of, key_of, required_end_tables, start_tables
 from ..texts.circuits import WireTables
 from ..texts.layouts import Cell, Layout
 
@@ -12,19 +12,19 @@ from ..texts.layouts import Cell, Layout
 MAX_KEPT_CELLS = 2_000_000
 MAX_PLACES = 24
 
-LiveTables = dict[int, Table]
+LiveTables = dict[int, TruthTable]
 
 
-def wanted_end(layout: Layout, values: WireTables, last: LiveTables | None) -> LiveTables:
+def wanted_end_tables(layout: Layout, values: WireTables, last: LiveTables | None) -> LiveTables:
     """Returns the end that the layout asks for; waste cells are as the run left them."""
-    wanted = end_tables(layout, values.tables, values.full)
+    wanted = required_end_tables(layout, values.tables, values.full)
     return {key_of(cell): (last or {}).get(key_of(cell), 0) if table is None else table for cell,
             table in wanted.items()}
 
 
 def start_of_wanted_end(layout: Layout, values: WireTables, last: LiveTables | None) -> LiveTables:
     """Returns the start that leads to the end that the layout asks for."""
-    field = LiveCells(wanted_end(layout, values, last))
+    field = LiveCells(wanted_end_tables(layout, values, last))
     for time in range(layout.steps - 1, -1, -1):
         field.time = time
         field.step()
@@ -62,7 +62,8 @@ def cells_where_runs_differ_least(layout: Layout, values: WireTables) -> list[Ce
     states = states_without_still_mirrors(layout, values)
     if states is None:
         return []
-    field, mirrors = LiveCells(wanted_end(layout, values, states[-1])), {key_of(cell) for cell in layout.mirror_cells()}
+    field = LiveCells(wanted_end_tables(layout, values, states[-1]))
+    mirrors = {key_of(cell) for cell in layout.mirror_cells()}
     least: dict[int, list[list[int]]] = {}
     for time in range(layout.steps, -1, -1):
         for column, keys in differing_cells_by_choice(states[time], field.live, mirrors).items():

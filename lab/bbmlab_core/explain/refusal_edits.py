@@ -6,9 +6,9 @@ from typing import Any, Callable, Iterable, Iterator
 from ..texts.certificates import Module, local_wires
 from ..texts.circuits import Circuit
 from ..texts.documents import Document
-from ..texts.limits import FIRST_LIMITS, LIMITS_LINE
+from ..texts.limits import FIRST_LIMITS, LIMITS_2_LINE
 from ..texts.lines import match_line
-from ..texts.spelling import spelling_of
+from ..texts.spelling import spell_text
 from .edits import Edit, addition, deletion, edits_between, insertion_line_in_module, replacement
 
 Edits = tuple[Edit, ...]
@@ -19,14 +19,14 @@ SIGN_REPLACEMENTS = {"\xe2\x86\x92": "->", "\xe2\x9f\xb6": "->", "\xe2\x87\x92":
                      "\xe2\x80\x94>": "->", "\xc2\xa0": " ", "\xef\xbb\xbf": "", ",": " ", ";": " ", "\t": " ",
                      "\r": ""}
 # The most names of near spelling, and the most lines that one fix changes in the same way.
-MAX_SIMILAR = 4
+MAX_SIMILAR_NAMES = 4
 
 
 def cleaned_line(line: str) -> str:
     """Returns a line with the signs of the formats in place of those that editors write, and with single spaces."""
     for sign, plain in SIGN_REPLACEMENTS.items():
         line = line.replace(sign, plain)
-    return spelling_of(line + "\n").text.rstrip("\n")
+    return spell_text(line + "\n").text.rstrip("\n")
 
 
 def shape_edits(document: Document, number: int, facts: dict[str, Any]) -> Iterator[Edits]:
@@ -49,7 +49,7 @@ def shape_edits(document: Document, number: int, facts: dict[str, Any]) -> Itera
 
 def similar_lines(words: list[str], forms: dict[str, Any]) -> Iterator[list[str]]:
     """Yields a line with another keyword, in small letters, without a last word, or with the arrow in its place."""
-    for word in difflib.get_close_matches(words[0].lower(), forms, MAX_SIMILAR, 0.5):
+    for word in difflib.get_close_matches(words[0].lower(), forms, MAX_SIMILAR_NAMES, 0.5):
         yield [word, *words[1:]]
         yield [word, *(other.lower() for other in words[1:])]
     if words[0] in forms and "->" in forms[words[0]] and "->" not in words:
@@ -66,7 +66,7 @@ def header_edits(_document: Document, number: int, facts: dict[str, Any]) -> Ite
     yield (deletion(number),)
 
 
-def line_deletion(_document: Document, number: int, _facts: dict[str, Any]) -> Iterator[Edits]:
+def line_deletion_edits(_document: Document, number: int, _facts: dict[str, Any]) -> Iterator[Edits]:
     """Yields the text without the line."""
     yield (deletion(number),)
 
@@ -134,7 +134,7 @@ def heard_wire_edits(document: Document, _number: int, facts: dict[str, Any]) ->
 def other_name_edits(document: Document, number: int, facts: dict[str, Any]) -> Iterator[Edits]:
     """Yields the line with another name: one that is spelt alike, then the others; and the text without the line."""
     known, line = facts["known"], document.line(number)
-    near = difflib.get_close_matches(facts["name"], known, MAX_SIMILAR, 0.3)
+    near = difflib.get_close_matches(facts["name"], known, MAX_SIMILAR_NAMES, 0.3)
     for name in dict.fromkeys([*near, *known[:40]]):
         words = [name if word == facts["name"] else word for word in line.split(" ")]
         yield (replacement(number, " ".join(words)),)
@@ -185,7 +185,7 @@ def missing_end_edits(document: Document, _number: int, _facts: dict[str, Any]) 
         yield (addition(len(lines), "end"), addition(len(lines), ""))
 
 
-def trailing_lines_deletion(document: Document, number: int, _facts: dict[str, Any]) -> Iterator[Edits]:
+def trailing_line_deletion_edits(document: Document, number: int, _facts: dict[str, Any]) -> Iterator[Edits]:
     """Yields the text up to its last section."""
     lines = document.text.split("\n")
     count = len(lines) if lines[-1] else len(lines) - 1
@@ -211,14 +211,14 @@ def no_module_edits(document: Document, number: int, facts: dict[str, Any]) -> I
 def limit_edits(document: Document, number: int, facts: dict[str, Any]) -> Iterator[Edits]:
     """Yields the text with the line that raises its limits, and then the line with another number."""
     if facts["limits"] is FIRST_LIMITS:
-        yield (addition(0, LIMITS_LINE),)
+        yield (addition(0, LIMITS_2_LINE),)
     if "number" in facts:
         yield from near_number_edits(document, number, facts)
 
 
 EDIT_FINDERS: dict[str, EditFinder] = {cause: finder for finder, causes in (
     (shape_edits, "shape"),
-    (line_deletion, "kind_after_later_kind gate_not_rising border_not_rising before_first_module second_header "
+    (line_deletion_edits, "kind_after_later_kind gate_not_rising border_not_rising before_first_module second_header "
                     "keep_not_used wire_defined cut_twice use_output_local cut_count"),
     (header_edits, "first_not_header"),
     (unconsumed_wire_edits, "wire_not_consumed"),
@@ -235,7 +235,7 @@ EDIT_FINDERS: dict[str, EditFinder] = {cause: finder for finder, causes in (
     (limit_edits, "layout_side mirror_side layout_steps wire_count gate_count module_count"),
     (near_place_edits, "cell_outside cell_taken"),
     (missing_end_edits, "text_ended line_not_ended"),
-    (trailing_lines_deletion, "text_goes_on"),
+    (trailing_line_deletion_edits, "text_goes_on"),
 ) for cause in causes.split()}
 
 
@@ -244,7 +244,7 @@ def refusal_edits(document: Document) -> Iterator[Edits]:
     refusal = document.refusal
     if refusal is None:
         return
-    in_order = edits_between(document.text, spelling_of(document.text).text)
+    in_order = edits_between(document.text, spell_text(document.text).text)
     if in_order:
         yield tuple(in_order)
     if refusal.cause == "use_output_local":

@@ -6,19 +6,19 @@ from dataclasses import dataclass
 
 from ..farm.answering import PROGRAM_STATUS_OF
 from ..host.processor import processor_seconds
-from ..host.program import Executable, BadProgramError, ProgramTimeout, ask, open_program
-from ..physics.own_report import own_report
+from ..host.program import Executable, BadProgramError, ProgramTimeout, ask_program, open_program
+from ..physics.own_report import lab_report
 from ..texts.documents import read_document
 from ..texts.reports import ReportLine, ReportOrRefusal, ReportError, parse_report
 
 # The most seconds for one run of the program.
 MAX_RUN_SECONDS = 60.0
 # The most steps of all modules together that the lab runs in the place of the program.
-MAX_OWN_STEPS = 50_000
+MAX_LAB_RUN_STEPS = 50_000
 
 
 @dataclass(frozen=True)
-class Budget:
+class TrialBudget:
     """How many texts are tried, and for how many seconds of the processor, those of the program included.
 
     If `is_counted_from_search`, what was done before the search for fixes does not count: reading and explaining a
@@ -33,7 +33,7 @@ class Budget:
 class TrialRunner:
     """Asks the program about texts; without a program, the lab's reader and its own runs of the modules."""
 
-    def __init__(self, program: Executable | str | None, budget: Budget = Budget()) -> None:
+    def __init__(self, program: Executable | str | None, budget: TrialBudget = TrialBudget()) -> None:
         self.program = None if program is None else open_program(program)
         self.budget = budget
         self.tries = 0
@@ -54,7 +54,7 @@ class TrialRunner:
         """Returns how many seconds are left for trials."""
         return self.budget.seconds - (processor_seconds() - self.started)
 
-    def is_over(self) -> bool:
+    def is_budget_used_up(self) -> bool:
         """Whether the tries or the seconds are used up."""
         return self.tries >= self.budget.tries or self.seconds_left() <= 0
 
@@ -62,20 +62,20 @@ class TrialRunner:
         """Returns the report of a text, or None if there is none: the budget is used up, or the program did not answer.
         """
         if text not in self._known:
-            if self.is_over():
+            if self.is_budget_used_up():
                 return None
             self.tries += 1
-            self._known[text] = self.ask(text)
+            self._known[text] = self.ask_judge(text)
         return self._known[text]
 
-    def ask(self, text: str) -> ReportOrRefusal | None:
+    def ask_judge(self, text: str) -> ReportOrRefusal | None:
         """Asks about one text."""
         if self.program is None:
             return self.own_report(text)
         try:
             # A second at least: a text that was made is worth an answer.
-            answer = ask(self.program, "check", text.encode("latin-1"),
-                         min(MAX_RUN_SECONDS, max(1.0, self.seconds_left())))
+            answer = ask_program(self.program, "check", text.encode("latin-1"),
+                                 min(MAX_RUN_SECONDS, max(1.0, self.seconds_left())))
             report = parse_report(answer.output)
             return report if answer.status == PROGRAM_STATUS_OF["refused" if report.refused
                                                                 else report.verdict] else None
@@ -86,9 +86,10 @@ class TrialRunner:
         """Returns the lab's own report, or None if the runs of its modules would take too long."""
         document = read_document(text, "check")
         layout, certificate = document.layout, document.certificate
-        if layout and certificate and not document.refusal and len(certificate.modules) * layout.steps > MAX_OWN_STEPS:
+        if (layout and certificate and not document.refusal
+                and len(certificate.modules) * layout.steps > MAX_LAB_RUN_STEPS):
             return None
-        return own_report(document)
+        return lab_report(document)
 
 
 def is_yes(report: ReportOrRefusal | None) -> bool:
@@ -98,7 +99,8 @@ def is_yes(report: ReportOrRefusal | None) -> bool:
 
 def fault_times(report: ReportOrRefusal) -> dict[int, int]:
     """Returns the time of the local fault of each module that has one."""
-    return {finding.number("module"): finding.number("time") for finding in report.findings if finding.word == "local"}
+    return {finding.number_value("module"): finding.number_value("time") for finding in report.findings
+            if finding.word == "local"}
 
 
 def faults_besides_local(report: ReportOrRefusal) -> set[str]:
@@ -125,6 +127,6 @@ def has_removed_fault(before: ReportOrRefusal, after: ReportOrRefusal | None, fi
     if finding is None:
         return left != {other.text for other in before.faults}
     if finding.word == "local":
-        module = finding.number("module")
+        module = finding.number_value("module")
         return module not in now or now[module] > was[module]
     return finding.text not in left

@@ -3,7 +3,7 @@
 import time
 from dataclasses import dataclass
 
-from ..host.program import Answer, Executable, BadProgramError, ProgramTimeout, RunningPrograms, ask
+from ..host.program import ProgramAnswer, Executable, BadProgramError, ProgramTimeout, RunningPrograms, ask_program
 from ..texts.reports import ReportError, parse_report
 
 # The results, from best to worst, with the word that is shown.
@@ -15,7 +15,7 @@ PROGRAM_STATUS_OF = {"yes": 0, "no": 1, "refused": 3}
 
 
 @dataclass
-class Result:
+class CheckResult:
     """What came of one file. `detail` is the first reason against it.
 
     `is_from_receipt`: it is from a receipt, and the program was not run. `is_fatal`: the program contradicts itself, so
@@ -32,25 +32,25 @@ class Result:
     is_fatal: bool = False
 
 
-def result_of_report(file: str, status: int, output: str) -> Result:
+def result_of_report(file: str, status: int, output: str) -> CheckResult:
     """Returns the result that a report or a refusal stands for; an error where the status is not the report's."""
     try:
         report = parse_report(output)
     except ReportError as error:
-        return Result(file, "error", str(error), 0)
+        return CheckResult(file, "error", str(error), 0)
     word = "refused" if report.refused else report.verdict
     if status != PROGRAM_STATUS_OF[word]:
-        return Result(file, "error", f"the report says {word}, and the status is {status}", 0)
+        return CheckResult(file, "error", f"the report says {word}, and the status is {status}", 0)
     if report.refused:
-        return Result(file, "refused", output.strip(), 0, output=output)
+        return CheckResult(file, "refused", output.strip(), 0, output=output)
     faults = report.faults
     more = f" and {len(faults) - 1} more" if len(faults) > 1 else ""
     count = report.module_count
     detail = f"{faults[0].text}{more}" if faults else f"{count} module{'s' if count != 1 else ''}"
-    return Result(file, report.verdict, detail, 0, count, output)
+    return CheckResult(file, report.verdict, detail, 0, count, output)
 
 
-def why_bad_answer(said: Answer) -> str | None:
+def why_bad_answer(said: ProgramAnswer) -> str | None:
     """Returns why an answer to `check` is neither a verdict nor a refusal, or None if it is one."""
     if said.status >= 4:
         return said.errors or f"status {said.status}"
@@ -59,21 +59,21 @@ def why_bad_answer(said: Answer) -> str | None:
 
 
 def result_of_check(program: Executable, file: str, text: bytes, timeout: float | None,
-                    running: RunningPrograms) -> Result:
+                    running: RunningPrograms) -> CheckResult:
     """Returns what the program says of a text, without the time that it took."""
     try:
-        said = ask(program, "check", text, timeout, running)
+        said = ask_program(program, "check", text, timeout, running)
     except ProgramTimeout as error:
-        return Result(file, "timeout", str(error), 0)
+        return CheckResult(file, "timeout", str(error), 0)
     except BadProgramError as error:
-        return Result(file, "error", str(error), 0)
+        return CheckResult(file, "error", str(error), 0)
     if said.status >= 4:
-        return Result(file, "error", said.errors or f"status {said.status}", 0)
+        return CheckResult(file, "error", said.errors or f"status {said.status}", 0)
     return result_of_report(file, said.status, said.output)
 
 
-def timed_result(program: Executable, file: str, text: bytes, timeout: float | None,
-                 running: RunningPrograms) -> Result:
+def timed_result_of_check(program: Executable, file: str, text: bytes, timeout: float | None,
+                          running: RunningPrograms) -> CheckResult:
     """Returns what the program says of a text, and how many seconds it took."""
     started = time.monotonic()
     result = result_of_check(program, file, text, timeout, running)

@@ -15,12 +15,12 @@ from types import FrameType
 from typing import Callable, Iterable, Iterator, Protocol
 
 from ..host.program import Executable, ProgramTimeout, RunningPrograms
-from ..host.signals import keep_interrupting
+from ..host.signals import start_interrupt_timer
 from ..host.terminal import LabError, read_bytes
-from .answering import RESULT_WORDS, Result, timed_result
+from .answering import RESULT_WORDS, CheckResult, timed_result_of_check
 
-__all__ = ["RESULT_WORDS", "Checker", "ResultKeeper", "Result", "result_counts", "exit_status", "files_to_check",
-           "summary"]
+__all__ = ["RESULT_WORDS", "CheckResult", "FileChecker", "ResultKeeper", "exit_status", "files_to_check",
+           "result_counts", "result_counts_summary"]
 
 # Seconds between two looks whether a worker has a result, and how long a worker may take to end.
 POLL_SECONDS, GRACE_SECONDS = 0.2, 2.0
@@ -34,12 +34,12 @@ def text_files_below(folder: str, tell: Callable[[str], None] = lambda _: None) 
     A link to a folder is not followed, since links may make a circle. `tell` gets a sentence on each of them, and on
     what is no plain file.
     """
-    def stop(error: OSError) -> None:
+    def raise_unlistable_folder(error: OSError) -> None:
         """Ends the search."""
         raise LabError(f"{error.filename}: {error.strerror or error}") from error
 
     found = []
-    for place, folders, names in os.walk(folder, onerror=stop):
+    for place, folders, names in os.walk(folder, onerror=raise_unlistable_folder):
         for name in sorted(name for name in folders if os.path.islink(os.path.join(place, name))):
             tell(f"{Path(place) / name}: this link to a folder is left out; name it to check its files")
         for name in (name for name in names if name.lower().endswith(".txt")):
@@ -68,17 +68,17 @@ def files_to_check(names: list[str], tell: Callable[[str], None] = lambda _: Non
     return list(dict.fromkeys(found))
 
 
-class Contradiction(LabError):
+class ContradictionError(LabError):
     """One program gave two answers to one text. The message has both."""
 
 
 class ResultKeeper(Protocol):
     """What keeps results from one run to the next."""
 
-    def known_result(self, file: str) -> Result | None:
+    def known_result(self, file: str) -> CheckResult | None:
         """Returns the result that is kept for a file, or None if the file is to be checked."""
 
-    def keep(self, text: bytes, result: Result, seconds: float) -> None:
+    def store_result(self, text: bytes, result: CheckResult, seconds: float) -> None:
         """Keeps a result that is a verdict or a refusal. `seconds` is the processor time of the program."""
 
 
@@ -90,56 +90,57 @@ class WorkerSettings:
     timeout: float | None
     keeper: ResultKeeper | None = None
 
-    def check_file(self, file: str, given: bytes | None, running: RunningPrograms) -> Result:
+    def check_file(self, file: str, given: bytes | None, running: RunningPrograms) -> CheckResult:
         """Returns what the program says of a file, or of a text that was read already."""
         text = text_or_failure(file, self.timeout) if given is None else given
-        if isinstance(text, Result):
+        if isinstance(text, CheckResult):
             return text
-        before = children_seconds()
-        result = timed_result(self.program, file, text, self.timeout, running)
+        before = children_processor_seconds()
+        result = timed_result_of_check(self.program, file, text, self.timeout, running)
         if self.keeper and result.result in KEPT_RESULT_NAMES:
-            return keep_result(self.keeper, text, result, children_seconds() - before)
+            return keep_result(self.keeper, text, result, children_processor_seconds() - before)
         return result
 
 
-def read_in_time(file: str, timeout: float | None) -> bytes:
+def read_bytes_in_time(file: str, timeout: float | None) -> bytes:
     """Returns the bytes of a file. Raises ProgramTimeout if it does not end in time, as a pipe to which nobody writes.
     """
     if timeout is None or os.path.isfile(file):
         return read_bytes(file)
 
-    def stop(_number: int, _frame: FrameType | None) -> None:
+    def raise_timeout(_number: int, _frame: FrameType | None) -> None:
         """Ends the reading."""
         raise ProgramTimeout(f"the file did not end within {timeout:g} seconds")
 
-    signal.signal(signal.SIGALRM, stop)
+    signal.signal(signal.SIGALRM, raise_timeout)
     signal.setitimer(signal.ITIMER_REAL, timeout)
     try:
         return read_bytes(file)
     finally:
-        keep_interrupting()
+        start_interrupt_timer()
 
 
-def text_or_failure(file: str, timeout: float | None) -> bytes | Result:
+def text_or_failure(file: str, timeout: float | None) -> bytes | CheckResult:
     """Returns the bytes of a file, or the result that it has if it cannot be read."""
     try:
-        return read_in_time(file, timeout)
+        return read_bytes_in_time(file, timeout)
     except LabError as error:
-        return Result(file, "missing", str(error).removeprefix(f"{file}: "), 0)
+        return CheckResult(file, "missing", str(error).removeprefix(f"{file}: "), 0)
     except ProgramTimeout as error:
-        return Result(file, "timeout", str(error), 0)
+        return CheckResult(file, "timeout", str(error), 0)
 
 
-def keep_result(keeper: ResultKeeper, text: bytes, result: Result, seconds: float) -> Result:
+def keep_result(keeper: ResultKeeper, text: bytes, result: CheckResult, seconds: float) -> CheckResult:
     """Keeps a result, and returns it, or an error if it was not kept."""
     try:
-        keeper.keep(text, result, seconds)
+        keeper.store_result(text, result, seconds)
     except LabError as error:
-        return Result(result.file, "error", str(error), result.seconds, is_fatal=isinstance(error, Contradiction))
+        return CheckResult(result.file, "error", str(error), result.seconds,
+                           is_fatal=isinstance(error, ContradictionError))
     return result
 
 
-def children_seconds() -> float:
+def children_processor_seconds() -> float:
     """Returns the seconds of the processor that the ended children of this process took."""
     return sum(os.times()[2:4])
 
@@ -151,15 +152,15 @@ def serve_checks(order: WorkerSettings, own: Connection, others: list[Connection
     """
     running = RunningPrograms()
 
-    def stop(_number: int, _frame: FrameType | None) -> None:
+    def kill_programs_on_signal(_number: int, _frame: FrameType | None) -> None:
         """Ends the program, and lets no other start."""
         running.kill_all()
 
     signal.signal(signal.SIGINT, signal.SIG_IGN)
     for number in (signal.SIGTERM, signal.SIGHUP):
         if signal.getsignal(number) is not signal.SIG_IGN:
-            signal.signal(number, stop)
-    keep_interrupting()
+            signal.signal(number, kill_programs_on_signal)
+    start_interrupt_timer()
     for connection in others:
         connection.close()
     try:
@@ -192,16 +193,16 @@ class CheckWorker:
             text = None
         self.connection.send((file, text))
 
-    def next_result(self) -> Result | None:
+    def next_result(self) -> CheckResult | None:
         """Returns the result that is there, or None if the process has ended."""
         try:
-            result: Result = self.connection.recv()
+            result: CheckResult = self.connection.recv()
             return result
         except (EOFError, OSError):
             return None
 
 
-class Checker:
+class FileChecker:
     """Checks files, some at a time. `stop` ends all that runs."""
 
     def __init__(self, program: Executable, jobs: int = 1, timeout: float | None = None,
@@ -209,7 +210,7 @@ class Checker:
         self.order, self.jobs = WorkerSettings(program, timeout, keeper), jobs
         self.workers: list[CheckWorker] = []
 
-    def results(self, files: Iterable[str]) -> Iterator[Result | None]:
+    def check_files(self, files: Iterable[str]) -> Iterator[CheckResult | None]:
         """Yields the result of each file as soon as it is there, and None about each fifth of a second without one."""
         idle: list[CheckWorker] = []
         busy: dict[Connection, CheckWorker] = {}
@@ -230,7 +231,8 @@ class Checker:
         while busy:
             yield from self.ready_results(busy, idle)
 
-    def ready_results(self, busy: dict[Connection, CheckWorker], idle: list[CheckWorker]) -> Iterator[Result | None]:
+    def ready_results(self, busy: dict[Connection, CheckWorker],
+                      idle: list[CheckWorker]) -> Iterator[CheckResult | None]:
         """Yields the results that are there, or None after a fifth of a second. The workers that gave them become idle.
         """
         connections = [connection for connection in wait(list(busy), POLL_SECONDS)
@@ -244,7 +246,7 @@ class Checker:
                 idle.append(worker)
             else:
                 self.workers.remove(worker)
-            yield result or Result(worker.file, "error", "the process that checked it ended", 0)
+            yield result or CheckResult(worker.file, "error", "the process that checked it ended", 0)
 
     def stop(self) -> None:
         """Ends the workers and the programs that run."""
@@ -257,14 +259,14 @@ class Checker:
                 worker.process.kill()
 
 
-def summary(counts: dict[str, int]) -> str:
+def result_counts_summary(counts: dict[str, int]) -> str:
     """Returns how many files have each result."""
     total = sum(counts.values())
     told = ", ".join(f"{counts[word]} {RESULT_WORDS[word]}" for word in RESULT_WORDS if counts.get(word))
     return f"{total} file{'s' if total != 1 else ''}: {told or 'none was checked'}"
 
 
-def result_counts(results: Iterable[Result]) -> dict[str, int]:
+def result_counts(results: Iterable[CheckResult]) -> dict[str, int]:
     """Returns how many results there are of each kind."""
     return Counter(result.result for result in results)
 

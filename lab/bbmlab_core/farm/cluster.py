@@ -14,18 +14,18 @@ from ..host.own_digest import why_not_report_of
 from ..host.program import Executable
 from ..host.terminal import LabError
 from . import remote
-from .answering import Result, result_of_report
-from .checking import KEPT_RESULT_NAMES, Checker, keep_result, text_or_failure
-from .receipts import ReceiptFolder, sha256
+from .answering import CheckResult, result_of_report
+from .checking import KEPT_RESULT_NAMES, FileChecker, keep_result, text_or_failure
+from .receipts import ReceiptFolder, sha256_digits
 
 # How many groups of texts are on their way for each thread of the workers, and seconds between two looks.
 GROUPS_AHEAD, POLL_SECONDS = 4, 0.2
 # A group of texts that is sent at once: about as many seconds of work, and at most so many texts and bytes.
 GROUP_SECONDS, GROUP_TEXTS, GROUP_BYTES = 0.25, 50, 1 << 20
 # How often a group is sent that no worker answers, since a worker may end with a result that was not fetched.
-MAX_TRIES = 3
+MAX_SENDS_PER_GROUP = 3
 # Seconds until the threads of the workers are counted again, since this asks the scheduler.
-RECOUNT_SECONDS = 1.0
+THREAD_RECOUNT_SECONDS = 1.0
 
 # Seconds to wait for the scheduler, and for a first worker.
 CONNECT_SECONDS = 10
@@ -39,7 +39,7 @@ class FileGroup:
         self.sent = 0
 
 
-def connect(address: str, jobs: int, program: Executable) -> Any:
+def connect_to_cluster(address: str, jobs: int, program: Executable) -> Any:
     """Returns a client of the scheduler at an address, or of a cluster of processes here if the address is empty, with
     the program."""
     try:
@@ -62,7 +62,7 @@ def connect(address: str, jobs: int, program: Executable) -> Any:
     return client
 
 
-def answers_or_reason(future: Any) -> tuple[list[remote.RemoteAnswer], str]:
+def answers_and_failure_reason(future: Any) -> tuple[list[remote.RemoteAnswer], str]:
     """Returns the answers of a worker, and why there are none.
 
     A worker that was killed may take along a result that was ready.
@@ -76,14 +76,14 @@ def answers_or_reason(future: Any) -> tuple[list[remote.RemoteAnswer], str]:
         return [], str(error) or type(error).__name__
 
 
-class ClusterChecker(Checker):
+class ClusterChecker(FileChecker):
     """Checks files by the workers of a cluster. The texts and the receipts are read and written here."""
 
     def __init__(self, program: Executable, address: str, jobs: int, timeout: float | None,
                  folder: ReceiptFolder | None, sends: bool) -> None:
         super().__init__(program, jobs, timeout, folder)
         self.digest = program.sha256
-        self.client = connect(address, jobs, program)
+        self.client = connect_to_cluster(address, jobs, program)
         self.said: dict[str, str] = {}
         # The groups that came back, how many are on their way, and what the texts of those that came back took.
         self.done: "queue.SimpleQueue[tuple[FileGroup, Any]]" = queue.SimpleQueue()
@@ -95,14 +95,14 @@ class ClusterChecker(Checker):
             self.stop()
             raise LabError(complaint)
 
-    def results(self, files: Iterable[str]) -> Iterator[Result | None]:
+    def check_files(self, files: Iterable[str]) -> Iterator[CheckResult | None]:
         """Yields the result of each file as soon as it is there, and None about each fifth of a second without one."""
         group = FileGroup()
         for file in files:
             ready = (self.order.keeper.known_result(file) if self.order.keeper else None) or self.add_file(file, group)
             if ready:
                 yield ready
-            elif self.is_full(group):
+            elif self.is_group_full(group):
                 self.send_group(group)
                 group = FileGroup()
                 while self.flying >= GROUPS_AHEAD * self.worker_thread_count():
@@ -117,18 +117,18 @@ class ClusterChecker(Checker):
         now = time.monotonic()
         if now >= self.counted_until:
             self.thread_count = max(1, sum(int(count) for count in self.client.nthreads().values()))
-            self.counted_until = now + RECOUNT_SECONDS
+            self.counted_until = now + THREAD_RECOUNT_SECONDS
         return self.thread_count
 
-    def add_file(self, file: str, group: FileGroup) -> Result | None:
+    def add_file(self, file: str, group: FileGroup) -> CheckResult | None:
         """Adds a file to a group. Returns a result only if it can't be read."""
         text = text_or_failure(file, self.order.timeout)
-        if isinstance(text, Result):
+        if isinstance(text, CheckResult):
             return text
         group.files.append((file, text))
         return None
 
-    def is_full(self, group: FileGroup) -> bool:
+    def is_group_full(self, group: FileGroup) -> bool:
         """Whether a group is as large as it may be: by what a text took so far, one text at the start."""
         wanted = GROUP_SECONDS * self.answered / self.worked if self.worked else 1
         return len(group.files) >= min(max(wanted, 1), GROUP_TEXTS) or sum(len(text) for _,
@@ -142,7 +142,7 @@ class ClusterChecker(Checker):
         group.sent += 1
         self.flying += 1
 
-    def finished_results(self) -> Iterator[Result | None]:
+    def finished_results(self) -> Iterator[CheckResult | None]:
         """Yields the results of a group that has come, or None after a fifth of a second."""
         try:
             group, future = self.done.get(timeout=POLL_SECONDS)
@@ -150,34 +150,35 @@ class ClusterChecker(Checker):
             yield None
             return
         self.flying -= 1
-        answers, why = answers_or_reason(future)
-        if why and group.sent < MAX_TRIES:
+        answers, why = answers_and_failure_reason(future)
+        if why and group.sent < MAX_SENDS_PER_GROUP:
             self.send_group(group)
             return
         if why:
-            yield from (Result(file, "error", f"no worker answered: {why}", 0) for file, _ in group.files)
+            yield from (CheckResult(file, "error", f"no worker answered: {why}", 0) for file, _ in group.files)
             return
         for (file, text), said in zip(group.files, answers):
             self.answered += 1
             self.worked += max(said[3], 0.001, self.order.timeout or 0 if said[4] == "timeout" else 0)
             yield self.keep_answer(file, text, said)
 
-    def keep_answer(self, file: str, text: bytes, said: remote.RemoteAnswer) -> Result:
+    def keep_answer(self, file: str, text: bytes, said: remote.RemoteAnswer) -> CheckResult:
         """Returns the result that an answer stands for, and keeps it.
 
         Two answers to one text end the run, and so does another program.
         """
         host, status, output, seconds, kind, complaint = said
         if kind:
-            return Result(file, "timeout" if kind == "timeout" else "error", complaint, 0,
-                          is_fatal=kind == "other program")
+            return CheckResult(file, "timeout" if kind == "timeout" else "error", complaint, 0,
+                               is_fatal=kind == "other program")
         why = why_not_report_of(text, output)
-        result = Result(file, "error", f"on {host}: {why}", 0) if why else result_of_report(file, status, output)
+        result = CheckResult(file, "error", f"on {host}: {why}", 0) if why else result_of_report(file, status, output)
         result.seconds = round(seconds, 3)
-        other = self.said.setdefault(sha256(text), output)
+        other = self.said.setdefault(sha256_digits(text), output)
         if other != output:
-            return Result(file, "error", f"two answers to {file} by one program: {other!r} and {output!r} (on {host})",
-                          0, is_fatal=True)
+            return CheckResult(file, "error",
+                               f"two answers to {file} by one program: {other!r} and {output!r} (on {host})", 0,
+                               is_fatal=True)
         keeper = self.order.keeper
         return keep_result(keeper, text, result, seconds) if keeper and result.result in KEPT_RESULT_NAMES else result
 

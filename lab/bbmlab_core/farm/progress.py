@@ -7,8 +7,8 @@ from ..host.terminal import escape_controls
 
 BAR_WIDTH = 24
 # Seconds between two lines where there is no terminal, and between two looks of the bar.
-LINE_SECONDS = 10.0
-SHOW_SECONDS = 0.1
+LINE_INTERVAL_SECONDS = 10.0
+BAR_INTERVAL_SECONDS = 0.1
 
 
 def clock_text(seconds: float) -> str:
@@ -38,7 +38,8 @@ class Progress:
     def show_if_due(self, what: str = "") -> None:
         """Shows how far it is, if it is time to."""
         now = time.monotonic()
-        if sys.stderr is None or now - self.last < (SHOW_SECONDS if self.is_terminal else LINE_SECONDS):
+        if sys.stderr is None or now - self.last < (BAR_INTERVAL_SECONDS if self.is_terminal
+                                                    else LINE_INTERVAL_SECONDS):
             return
         self.last = now
         rate = self.done / (now - self.began)

@@ -9,7 +9,7 @@ import socket
 import subprocess
 import tempfile
 
-from ..host.sealed import descriptor_path, sealed_copy
+from ..host.sealed import descriptor_path, sealed_copy_descriptor
 
 
 # What a program on a worker said of a text: the host, the status, the output, the processor seconds, and the kind of an
@@ -74,7 +74,7 @@ def run_on_texts(digest: str, texts: list[bytes], timeout: float | None) -> list
     path, data, complaint = program_with_digest(digest)
     if complaint:
         return [(socket.gethostname(), 70, "", 0, "other program", complaint)]
-    copy = sealed_copy(data)
+    copy = sealed_copy_descriptor(data)
     try:
         return [run_copy(path, copy, text, timeout) for text in texts]
     finally:

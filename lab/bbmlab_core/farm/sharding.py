@@ -13,7 +13,7 @@ class Shard(NamedTuple):
     part_count: int
 
 
-def read_shard(word: str) -> Shard:
+def shard_from_text(word: str) -> Shard:
     """Returns a part, written K/N."""
     number, slash, count = word.partition("/")
     if not slash or not (number.isdecimal() and count.isdecimal()) or max(len(number),

@@ -12,8 +12,8 @@ from dataclasses import dataclass
 from pathlib import Path
 
 from .own_digest import why_not_report_of
-from .sealed import descriptor_path, sealed_copy
-from .signals import allow_stop, delay_stop
+from .sealed import descriptor_path, sealed_copy_descriptor
+from .signals import allow_stop_signal, delay_stop_signal
 
 PACKAGE_FOLDER = Path(__file__).resolve().parent.parent
 
@@ -27,7 +27,7 @@ class ProgramTimeout(Exception):
 
 
 @dataclass(frozen=True)
-class Answer:
+class ProgramAnswer:
     """The exit status of the program, what it wrote, and its first line of standard error."""
 
     status: int
@@ -71,7 +71,7 @@ def open_program(program: Executable | str) -> Executable:
     try:
         path = program_behind_wrapper(program)
         data = Path(path).read_bytes()
-        return Executable(path, sealed_copy(data), hashlib.sha256(data).hexdigest())
+        return Executable(path, sealed_copy_descriptor(data), hashlib.sha256(data).hexdigest())
     except OSError as error:
         raise BadProgramError(f"{program} can't be run: {error.strerror or error}") from error
 
@@ -167,8 +167,8 @@ class RunningPrograms:
                 kill_session(process)
 
 
-# The runs that `ask` starts if it is not told otherwise. A process that can be stopped from outside sets it once, at
-# its start.
+# The runs that `ask_program` starts if it is not told otherwise. A process that can be stopped from outside sets it
+# once, at its start.
 SHARED_RUNNING_PROGRAMS: RunningPrograms | None = None
 
 
@@ -180,32 +180,33 @@ def kill_session(process: "subprocess.Popen[bytes]") -> None:
         process.kill()
 
 
-def command_answer(program: Executable, command: str, text: bytes, timeout: float | None,
-                   running: RunningPrograms) -> Answer:
+def run_program_command(program: Executable, command: str, text: bytes, timeout: float | None,
+                        running: RunningPrograms) -> ProgramAnswer:
     """Returns what a command of the program writes, whatever its status is.
 
     A signal is heard only when the program can be ended.
     """
-    with delay_stop():
+    with delay_stop_signal():
         try:
             process = running.start(program, command)
         except OSError as error:
             raise BadProgramError(f"{program} can't be run: {error.strerror or error}") from error
         try:
-            with allow_stop():
+            with allow_stop_signal():
                 output, written = process.communicate(text, timeout)
         except subprocess.TimeoutExpired as late:
             raise ProgramTimeout(f"no answer within {timeout:g} seconds") from late
         finally:
             running.kill(process)
-    return Answer(process.returncode, output.decode("latin-1"), written.decode("utf-8", "replace").strip())
+    return ProgramAnswer(process.returncode, output.decode("latin-1"), written.decode("utf-8", "replace").strip())
 
 
-def ask(program: Executable | str, command: str, text: bytes, timeout: float | None = None,
-        running: RunningPrograms | None = None) -> Answer:
+def ask_program(program: Executable | str, command: str, text: bytes, timeout: float | None = None,
+                running: RunningPrograms | None = None) -> ProgramAnswer:
     """Runs a command of the program on a text. The program is opened already, or a path."""
     program = open_program(program)
-    answer = command_answer(program, command, text, timeout, running or SHARED_RUNNING_PROGRAMS or RunningPrograms())
+    answer = run_program_command(program, command, text, timeout, running or SHARED_RUNNING_PROGRAMS
+                                 or RunningPrograms())
     if answer.status not in (0, 1, 3, 4, 5):
         raise BadProgramError(f"{program} ended with status {answer.status}: "
                               f"{answer.errors.splitlines()[0] if answer.errors else 'no message'}")

@@ -11,7 +11,7 @@ MANIFEST_PATHS = [*(PACKAGE_FOLDER.parent.parent / "release" / target / "MANIFES
                     for target in ("x86_64-linux-gnu", "x86_64-v3-linux-gnu")),
                   PACKAGE_FOLDER.parent.parent.parent / "share" / "doc" / "bbmcheck" / "MANIFEST"]
 # How long `--version` may take.
-VERSION_SECONDS = 10.0
+VERSION_TIMEOUT_SECONDS = 10.0
 
 
 @dataclass(frozen=True)
@@ -43,25 +43,25 @@ def known_releases(more: tuple[str, ...] = ()) -> dict[str, dict[str, str]]:
     return {lines["program_sha256"]: lines for lines in found if "program_sha256" in lines}
 
 
-def identity_of(program: Executable) -> ProgramIdentity:
+def program_identity(program: Executable) -> ProgramIdentity:
     """Returns which program was opened: by the digest of its copy, of which the copy itself is asked for its version.
     """
     release = known_releases().get(program.sha256, {})
-    return ProgramIdentity(program.sha256, version_of(program), release.get("kit"), release.get("sources_sha256"))
+    return ProgramIdentity(program.sha256, program_version(program), release.get("kit"), release.get("sources_sha256"))
 
 
-def version_of(program: Executable) -> str | None:
+def program_version(program: Executable) -> str | None:
     """Returns the first line that `--version` prints, or None if it ends otherwise."""
     try:
         asked = program.start("--version")
     except OSError as error:
         raise BadProgramError(f"{program} can't be run: {error.strerror or error}") from error
     try:
-        output, _ = asked.communicate(timeout=VERSION_SECONDS)
+        output, _ = asked.communicate(timeout=VERSION_TIMEOUT_SECONDS)
     except subprocess.TimeoutExpired as error:
         kill_session(asked)
         asked.communicate()
         raise BadProgramError(
-            f"{program} can't be run: `--version` gave no answer within {VERSION_SECONDS:g} seconds") from error
+            f"{program} can't be run: `--version` gave no answer within {VERSION_TIMEOUT_SECONDS:g} seconds") from error
     lines = output.decode("utf-8", "replace").splitlines()
     return lines[0] if lines and not asked.returncode else None

@@ -35,7 +35,7 @@ def replace_file(name: str, data: bytes, before: bytes | None = None, follows: b
         raise OSError(errno.EACCES, "the file is protected against writing")
     beside = write_beside(target, data, old)
     try:
-        if before is not None and bytes_of(target) != before:
+        if before is not None and read_plain_file_bytes(target) != before:
             raise ChangedFileError(name, link_under_free_name(beside, target))
         if old and has_different_owner(beside, old):
             write_in_place(target, data)
@@ -54,7 +54,7 @@ def file_status(path: str) -> os.stat_result | None:
         return None
 
 
-def bytes_of(path: str) -> bytes | None:
+def read_plain_file_bytes(path: str) -> bytes | None:
     """Returns the bytes of a file that is no link, or None if it is not there."""
     try:
         with open(os.open(path, os.O_RDONLY | os.O_NOFOLLOW | os.O_NONBLOCK), "rb") as file:

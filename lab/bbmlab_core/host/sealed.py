@@ -15,7 +15,7 @@ MFD_EXEC = 0x10
 SEALS = fcntl.F_SEAL_SEAL | fcntl.F_SEAL_SHRINK | fcntl.F_SEAL_GROW | fcntl.F_SEAL_WRITE
 
 
-def memory_file() -> int:
+def make_memory_file_descriptor() -> int:
     """Returns the descriptor of a new file in memory that can be sealed and executed."""
     flags = os.MFD_CLOEXEC | os.MFD_ALLOW_SEALING
     try:
@@ -35,20 +35,20 @@ def descriptor_above_streams(descriptor: int) -> int:
         os.close(descriptor)
 
 
-def sealed_copy(data: bytes) -> int:
+def sealed_copy_descriptor(data: bytes) -> int:
     """Returns the descriptor of a file with some bytes that cannot be changed: in memory, else a file without a name.
     """
     try:
-        descriptor = descriptor_above_streams(memory_file())
+        descriptor = descriptor_above_streams(make_memory_file_descriptor())
     except OSError:
-        return nameless_copy(data)
+        return nameless_copy_descriptor(data)
     with open(descriptor, "wb", closefd=False) as file:
         file.write(data)
     fcntl.fcntl(descriptor, fcntl.F_ADD_SEALS, SEALS)
     return descriptor
 
 
-def nameless_copy(data: bytes) -> int:
+def nameless_copy_descriptor(data: bytes) -> int:
     """Returns the descriptor of a file that only this user could open, and that has no name any more."""
     with tempfile.TemporaryDirectory() as folder:
         path = os.path.join(folder, "bbmcheck")

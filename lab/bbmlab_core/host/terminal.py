@@ -17,7 +17,7 @@ class LabError(Exception):
         self.status = status
 
 
-def has_colour(stream: IO[str] | None) -> bool:
+def can_show_colours(stream: IO[str] | None) -> bool:
     """Whether colours are written to a stream: it is open and a terminal, and NO_COLOR is not set."""
     return stream is not None and stream.isatty() and not os.environ.get("NO_COLOR") and os.environ.get(
         "TERM") != "dumb"
@@ -25,7 +25,7 @@ def has_colour(stream: IO[str] | None) -> bool:
 
 def coloured(text: str, colour: str, stream: IO[str] | None = None) -> str:
     """Returns a text in a colour where the stream has colours."""
-    return f"\033[{COLOUR_CODES[colour]}m{text}\033[0m" if has_colour(stream or sys.stdout) else text
+    return f"\033[{COLOUR_CODES[colour]}m{text}\033[0m" if can_show_colours(stream or sys.stdout) else text
 
 
 def escape_controls(text: str) -> str:
@@ -45,7 +45,7 @@ def escaped_character(code: int) -> str:
     return f"\\x{code:02x}" if code < 0x100 else f"\\u{code:04x}"
 
 
-def tell(words: object) -> None:
+def tell_user(words: object) -> None:
     """Writes a sentence for the user on standard error."""
     print(f"bbmlab: {escape_controls(str(words))}", file=sys.stderr)
 
@@ -72,12 +72,12 @@ def read_bytes(name: str) -> bytes:
         raise LabError(f"{where}: {error.strerror or error}") from error
 
 
-def read_text(name: str) -> str:
+def read_latin1_text(name: str) -> str:
     """Returns a text, one character for each byte."""
     return read_bytes(name).decode("latin-1")
 
 
-def standard_output() -> BinaryIO:
+def binary_standard_output() -> BinaryIO:
     """Returns standard output for bytes."""
     if sys.stdout is None:
         raise LabError("standard output is closed")
@@ -92,33 +92,33 @@ def write_bytes(name: str | None, data: bytes, sources: Iterable[str] = (), befo
     If `before` is given, a file with other bytes stays as it is.
     """
     if name is None or name == "-":
-        output = standard_output()
+        output = binary_standard_output()
         output.write(data)
         output.flush()
         return
-    require_other_file(name, sources)
+    require_output_not_input(name, sources)
     try:
         replace_file(name, data, before)
     except OSError as error:
         raise LabError(f"{name}: {error.strerror or error}") from error
 
 
-def write_text(name: str | None, text: str, sources: Iterable[str] = ()) -> None:
+def write_utf8_text(name: str | None, text: str, sources: Iterable[str] = ()) -> None:
     """Writes a text in UTF-8 to a file, or to standard output for None and `-`."""
     write_bytes(name, text.encode("utf-8"), sources)
 
 
-def require_other_file(name: str | None, sources: Iterable[str]) -> None:
+def require_output_not_input(name: str | None, sources: Iterable[str]) -> None:
     """Raises LabError if an output is one of the files that were read."""
     if name is not None and any(is_same_file(name, source) for source in sources):
         raise LabError(f"{name}: the output is the input; write to another file", 2)
 
 
-def require_output(name: str | None, sources: Iterable[str]) -> None:
+def require_writable_output(name: str | None, sources: Iterable[str]) -> None:
     """Raises LabError if an output is one of the files that were read, or a file that cannot be made."""
     if name is None or name == "-":
         return
-    require_other_file(name, sources)
+    require_output_not_input(name, sources)
     target = os.path.realpath(name)
     folder = os.path.dirname(target)
     if os.path.isdir(target):

@@ -8,9 +8,9 @@ from ..route.design import outermost_cell_numbers
 from ..route.netlist import RouterNetlist
 from ..route.paths import Path
 from ..route.search import RoutedBundle
-from ..route.world import BITS, RIM_CELLS, ROW_STRIDE, ROW_BITS, TILE
+from ..route.world import SINGLE_BITS, RIM_CELLS, ROW_STRIDE, ROW_BITS, TILE_SIDE
 from ..texts.layouts import Box, Cell, row_order_key
-from ..texts.limits import limits_for, with_limits_line
+from ..texts.limits import smallest_fitting_limits, text_with_limits_line
 from .composing import Composition
 from .modules import JoinedModules
 from .parts import ALWAYS_SIGNAL
@@ -62,7 +62,7 @@ class JoinedLayout:
         """Yields the lines of the layout section."""
         plan, circuit = self.plan, self.composed.circuit
         yield f"layout {plan.width} {plan.height} {plan.end}"
-        for x, y, width, height in rectangles(self.mirror_rows):
+        for x, y, width, height in rectangles_of_rows(self.mirror_rows):
             yield f"mirror {x} {y} {width} {height}"
         for x, y in sorted(self.starts.get(ALWAYS_SIGNAL, []), key=row_order_key):
             yield f"ball {x} {y}"
@@ -84,7 +84,7 @@ class JoinedLayout:
         rows = [0] * self.plan.height
         parts = (placed.placing.cell_number_map().map_all(placed.part.footprint.mirrors) for placed in self.plan.placed)
         for number in chain.from_iterable(chain(parts, (path.item.mirrors for path in self.paths))):
-            rows[number >> ROW_BITS] |= BITS[number & ROW_STRIDE - 1]
+            rows[number >> ROW_BITS] |= SINGLE_BITS[number & ROW_STRIDE - 1]
         return rows
 
     @property
@@ -101,7 +101,7 @@ class JoinedLayout:
                     yield cell, wire
 
 
-def rectangles(rows: list[int]) -> Iterator[Box]:
+def rectangles_of_rows(rows: list[int]) -> Iterator[Box]:
     """Yields rectangles that do not overlap and together have the cells of rows of bits, by y and then x."""
     left = list(rows)
     for y in range(len(left)):
@@ -124,8 +124,8 @@ def set_cropped_size(plan: JoinPlan, paths: list[Path]) -> None:
                  *(own.x + own.extent.width for own in plan.placed)])
     bottom = max([0, *(number // ROW_STRIDE + RIM_CELLS for number in numbers),
                   *(own.y + own.extent.height for own in plan.placed)])
-    plan.width = min(plan.side, (right // TILE + 1) * TILE)
-    plan.height = min(plan.side, (bottom // TILE + 1) * TILE)
+    plan.width = min(plan.side, (right // TILE_SIDE + 1) * TILE_SIDE)
+    plan.height = min(plan.side, (bottom // TILE_SIDE + 1) * TILE_SIDE)
 
 
 def make_joined_bundle(composed: Composition, plan: JoinPlan, modules: JoinedModules,
@@ -133,13 +133,13 @@ def make_joined_bundle(composed: Composition, plan: JoinPlan, modules: JoinedMod
     """Returns the bundle of a join whose balls are all led; raises NoRouteError if a module needs too many wires."""
     set_cropped_size(plan, paths)
     layout = JoinedLayout(composed, plan, paths)
-    modules.note_lines(paths, layout.port_cells())
+    modules.note_border_lines(paths, layout.port_cells())
     texts, count, most_cuts = ["certificate 2\n"], 0, 0
     for module in modules.modules(paths):
         texts.append(str(module))
         count, most_cuts = count + 1, max(most_cuts, len(module.cuts))
     circuit, side = composed.circuit, max(plan.width, plan.height)
-    limits = limits_for(side, plan.end, count, len(circuit.gates), len(circuit.wires))
-    text = with_limits_line("".join([composed.section, "\n".join(layout.lines()), "\n", *texts, "end\n"]), limits)
+    limits = smallest_fitting_limits(side, plan.end, count, len(circuit.gates), len(circuit.wires))
+    text = text_with_limits_line("".join([composed.section, "\n".join(layout.lines()), "\n", *texts, "end\n"]), limits)
     gates = sum(gate.kind not in ("source", "delay") for gate in circuit.gates)
     return RoutedBundle(text, "", plan.width, plan.height, plan.end, layout.mirror_cell_count, count, most_cuts, gates)

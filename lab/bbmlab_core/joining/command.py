@@ -8,30 +8,30 @@ import time
 from dataclasses import dataclass
 from typing import Collection
 
-from ..host.program import Executable, ask, find_and_open_program
-from ..host.terminal import LabError, coloured, escape_controls, read_bytes, require_output, write_text
+from ..host.program import Executable, ask_program, find_and_open_program
+from ..host.terminal import LabError, coloured, escape_controls, read_bytes, require_writable_output, write_utf8_text
 from ..route.balls import Ball
 from ..route.board import NoRouteError
 from ..route.command import ProgressLine, require_legal_side, verdict_line
 from ..route.estimate import counted_noun
 from ..route.search import RoutedBundle
-from ..route.settings import Settings
-from ..route.world import TILE
+from ..route.settings import RouterSettings
+from ..route.world import TILE_SIDE
 from ..texts.documents import pause_garbage_collection
 from ..texts.limits import SECOND_LIMITS
 from .bundles import make_joined_bundle
 from .composing import Composition, Connection, compose
 from .modules import JoinedModules
 from .parts import PartBundle, read_part
-from .planning import SPARES, JoinPlan, estimated_side, first_spares, make_plan
+from .planning import SPARES, JoinPlan, estimated_side, first_spare_indices, make_plan
 from .slack import LoneWayCuts, WayCut
-from .wiring import JoinWiring, TightError, ball_words
+from .wiring import JoinWiring, TooFewStepsError, ball_words
 
 PART_NAME_PATTERN = re.compile(r"[a-z][a-z0-9_]{0,15}")
 CONNECTION_PATTERN = re.compile(r"(\w+)\.(\w+)=(\w+)\.(\w+)")
-SETTINGS = Settings(wander_spare_per_cell=0.07, wander_option_count=16)
+JOIN_SETTINGS = RouterSettings(wander_spare_per_cell=0.07, wander_option_count=16)
 # By how much the plane grows after an attempt that failed.
-PLANE_GROWTH = 1.12
+PLANE_GROWTH_FACTOR = 1.12
 
 
 @dataclass(frozen=True)
@@ -50,14 +50,14 @@ def part_files(words: list[str]) -> dict[str, str]:
         given, sign, file = word.partition("=")
         name = given.lower()
         if not sign or not PART_NAME_PATTERN.fullmatch(name):
-            name, file = letter_name(index), word
+            name, file = default_part_name(index), word
         if name in found:
             raise LabError(f"{word}: there is a part {name} already: name this one by NAME=FILE", 2)
         found[name] = file
     return found
 
 
-def letter_name(index: int) -> str:
+def default_part_name(index: int) -> str:
     """Returns the name of a part by its place: a, b, .. z, a1, b1, .."""
     return string.ascii_lowercase[index % 26] + (str(index // 26) if index >= 26 else "")
 
@@ -84,7 +84,7 @@ def read_parts(files: dict[str, str], connected: Collection[str], program: Execu
         if data not in known:
             if len(data) > SECOND_LIMITS.max_bytes:
                 raise LabError(f"{file}: the text is longer than {SECOND_LIMITS.max_bytes} bytes", 1)
-            answer = ask(program, "check", data, timeout)
+            answer = ask_program(program, "check", data, timeout)
             if answer.status == 1:
                 raise LabError(f"{file}: the program says no to it: `join` takes bundles with a yes", 1)
             if answer.status != 0:
@@ -131,7 +131,7 @@ class JoinSearch:
 
     def __post_init__(self) -> None:
         self.deadline = time.monotonic() + self.join_options.effort_seconds
-        self.spares = first_spares(self.composition)
+        self.spares = first_spare_indices(self.composition)
         self.closed, self.moved = set[WayCut](), list[WayCut]()
         self.side = self.join_options.side or estimated_side(self.composition, self.spares)
 
@@ -140,14 +140,15 @@ class JoinSearch:
         why = ""
         while self.attempts == 0 or time.monotonic() < self.deadline:
             try:
-                return self.attempt(), ""
-            except TightError as error:
+                return self.make_join_attempt(), ""
+            except TooFewStepsError as error:
                 why = str(error)
                 self.add_spare_steps(error.connections)
             except NoRouteError as error:
                 why = str(error)
                 if not self.join_options.side:
-                    self.side = min(SECOND_LIMITS.max_side, int(self.side * PLANE_GROWTH) // (2 * TILE) * 2 * TILE)
+                    self.side = min(SECOND_LIMITS.max_side,
+                                    int(self.side * PLANE_GROWTH_FACTOR) // (2 * TILE_SIDE) * 2 * TILE_SIDE)
         return None, why
 
     def add_spare_steps(self, connections: list[int]) -> None:
@@ -172,7 +173,7 @@ class JoinSearch:
         """Returns where balls with time to spare leave their lone ways."""
         return LoneWayCuts(self.composition, plan, self.spares, self.closed)
 
-    def attempt(self) -> RoutedBundle:
+    def make_join_attempt(self) -> RoutedBundle:
         """Returns the bundle of one attempt; raises NoRouteError."""
         plan, modules, wiring = self.prepare_attempt()
         self.attempts += 1
@@ -199,7 +200,7 @@ class JoinSearch:
             modules = JoinedModules(self.composition, plan)
             modules.require_equal_stop_times()
             seed = self.join_options.seed * 1_000_003 + self.attempts + 1
-            wiring = JoinWiring(plan, modules, seed, SETTINGS, self.deadline)
+            wiring = JoinWiring(plan, modules, seed, JOIN_SETTINGS, self.deadline)
             enclosed = [cut for cut in slack.moved if wiring.is_enclosed(cut.connection_index, cut.is_output)]
             self.closed.update(enclosed)
             if enclosed:
@@ -245,7 +246,7 @@ def join_command(options: argparse.Namespace) -> int:
     """Runs `bbmlab join`."""
     require_legal_side(options.size)
     files = part_files(options.files)
-    require_output(options.output, list(files.values()))
+    require_writable_output(options.output, list(files.values()))
     connections = [parse_connection(word) for word in options.connect]
     program, begun = find_and_open_program(options.program), time.monotonic()
     line = ProgressLine(options.effort, "balls led", "writing the bundle")
@@ -262,8 +263,8 @@ def join_command(options: argparse.Namespace) -> int:
         tried = f"{counted_noun(attempts, 'attempt')} and {options.effort:g} seconds"
         print(f"bbmlab: no join in {tried}: {escape_controls(why)}", file=sys.stderr)
         return 1
-    answer = ask(program, "check", routed.text.encode("latin-1"), options.timeout)
-    write_text(options.output, routed.text)
+    answer = ask_program(program, "check", routed.text.encode("latin-1"), options.timeout)
+    write_utf8_text(options.output, routed.text)
     spent = time.monotonic() - begun
     print(f"parts {len(made.parts)}, connections {len(connections)}, size {routed.width} by {routed.height}, "
           f"steps {routed.steps}, gates placed {routed.gates}, mirror cells {routed.mirror_cell_count}, "

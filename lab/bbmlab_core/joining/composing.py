@@ -12,8 +12,8 @@ from ..route.netlist import RouterNetlist
 from ..route.world import STEP_STRIDE, Footprint, cell_number
 from ..texts.circuits import Circuit, Gate
 from ..texts.limits import text_without_limits_line
-from ..texts.sections import text_of_section
-from .flight_claims import ranges_without
+from ..texts.sections import section_text_with_limits
+from .flight_claims import ranges_without_claims
 from .lone_ways import LoneWay
 from .parts import ALWAYS_SIGNAL, PartBundle, PartPort, part_footprint
 
@@ -65,12 +65,12 @@ class NamedPart:
         """Returns what the part takes without the lone ways."""
         claims = set[int]().union(*(way.claims for way in self.ways.values()))
         flights = [own for flight in self.bundle.flights
-                   for own in ((flight,) if claims.isdisjoint(flight) else ranges_without(flight, claims))]
+                   for own in ((flight,) if claims.isdisjoint(flight) else ranges_without_claims(flight, claims))]
         left = {cell_number(cell) for way in self.ways.values() for cell in way.mirrors}
         return part_footprint(self.bundle.item.mirrors - left, flights)
 
     @cached_property
-    def left_out_line_numbers(self) -> set[int]:
+    def left_out_cell_times(self) -> set[int]:
         """The border lines that are left out with the lone ways: numbers of cells at times, -1 for those of mirrors."""
         # Border lines have odd times.
         found = {number for way in self.ways.values() for number in way.moving_numbers if number // STEP_STRIDE % 2}
@@ -97,7 +97,7 @@ def compose(parts: dict[str, PartBundle], connections: list[Connection],
 
     The ports of `whole`, each a part and its own wire, keep their lone ways.
     """
-    require_connections(parts, connections)
+    require_valid_connections(parts, connections)
     order = feeding_order(list(parts), connections)
     named = [NamedPart(name, parts[name]) for name in order]
     fed = {(own.target, own.input): own for own in connections}
@@ -105,22 +105,24 @@ def compose(parts: dict[str, PartBundle], connections: list[Connection],
     count = 0
     for part in named:
         part.first_gate, count = count, count + len(part.bundle.circuit.gates)
-        part.ways = {wire: way for wire, way in connected_ways(part, connections) if (part.name, wire) not in whole}
+        part.ways = {wire: way for wire, way in connected_lone_ways(part, connections)
+                     if (part.name, wire) not in whole}
         for wire in part.bundle.circuit.wires:
             own = fed.get((part.name, wire))
             part.wires[wire] = by_name[own.source].wires[own.output] if own else joined_name(part.name, wire)
     lines = joined_circuit(named, connections)
-    return Composition(named, connections, text_without_limits_line(text_of_section(lines)), reread_circuit(lines))
+    return Composition(named, connections, text_without_limits_line(section_text_with_limits(lines)),
+                       reread_circuit(lines))
 
 
-def connected_ways(part: NamedPart, connections: list[Connection]) -> Iterator[tuple[str, LoneWay]]:
+def connected_lone_ways(part: NamedPart, connections: list[Connection]) -> Iterator[tuple[str, LoneWay]]:
     """Yields the lone ways of the connected ports of a part, with their wires."""
     taken = {own.input for own in connections if own.target == part.name}
     given = {own.output for own in connections if own.source == part.name}
     for ports, wires in ((part.bundle.starts, taken), (part.bundle.ends, given)):
         for port in ports:
             if port.wire in wires and port.lone_run is not None:
-                yield port.wire, part.bundle.lone_way(port.wire, port.lone_run, port.lone_run.cut_balls[0])
+                yield port.wire, part.bundle.lone_way(port.wire, port.lone_run, port.lone_run.possible_cut_balls[0])
 
 
 def joined_name(part: str, wire: str) -> str:
@@ -132,7 +134,7 @@ def joined_name(part: str, wire: str) -> str:
     return name
 
 
-def require_connections(parts: dict[str, PartBundle], connections: list[Connection]) -> None:
+def require_valid_connections(parts: dict[str, PartBundle], connections: list[Connection]) -> None:
     """Raises LabError if a connection names no port, a port twice, or a port whose wire is a constant."""
     used: dict[tuple[str, str], Connection] = {}
     for own in connections:
@@ -147,7 +149,7 @@ def require_connections(parts: dict[str, PartBundle], connections: list[Connecti
                 raise LabError(f"{own}: the {what} {wire} of {name} is connected twice", 2)
             used[what + name, wire] = own
         netlist = RouterNetlist(parts[own.source].circuit)
-        if netlist.root(own.output) in netlist.constants:
+        if netlist.root_wire_of(own.output) in netlist.constants:
             what = f"the output {own.output} of {own.source} is a constant"
             raise LabError(f"{own}: {what}, which `join` does not lead to an input", 1)
 

@@ -14,9 +14,9 @@ from typing import Collection, Container, Iterable, Iterator, NamedTuple
 from ..route.world import ROW_STRIDE, ROW_BITS, STEP_STRIDE
 
 # The directions of flights by the difference of the numbers of two blocks that follow one another.
-DIRECTIONS = {STEP_STRIDE + dy * ROW_STRIDE + dx: (dx, dy) for dx in (1, -1) for dy in (1, -1)}
+DIRECTION_BY_STEP = {STEP_STRIDE + dy * ROW_STRIDE + dx: (dx, dy) for dx in (1, -1) for dy in (1, -1)}
 # Any direction, for a single block.
-SINGLE_BLOCK_STEP = next(iter(DIRECTIONS))
+SINGLE_BLOCK_STEP = next(iter(DIRECTION_BY_STEP))
 
 
 class Flight(NamedTuple):
@@ -36,16 +36,16 @@ class Flight(NamedTuple):
 
 
 def flight_of_range(blocks: range) -> Flight:
-    """Returns the flight of blocks that follow one another by a step of `DIRECTIONS`."""
-    number, (dx, dy) = blocks.start, DIRECTIONS[blocks.step]
+    """Returns the flight of blocks that follow one another by a step of `DIRECTION_BY_STEP`."""
+    number, (dx, dy) = blocks.start, DIRECTION_BY_STEP[blocks.step]
     time = number // STEP_STRIDE
     return Flight((dx, dy), (number & ROW_STRIDE - 1) - dx * time, (number >> ROW_BITS & ROW_STRIDE - 1) - dy * time,
                   time, time + len(blocks))
 
 
-def flights_of(part: Iterable[int]) -> Iterator[Flight]:
+def flights_of_blocks(part: Iterable[int]) -> Iterator[Flight]:
     """Yields flights with the blocks of a part: one if it is a range of such blocks, else one for each block."""
-    if isinstance(part, range) and part.step in DIRECTIONS:
+    if isinstance(part, range) and part.step in DIRECTION_BY_STEP:
         yield flight_of_range(part)
     else:
         yield from (flight_of_range(range(number, number + 1, SINGLE_BLOCK_STEP)) for number in part)
@@ -55,7 +55,7 @@ def pop_flight_ranges(claims: set[int]) -> Iterator[range]:
     """Yields flights that together have some blocks at times, each once. The set is empty afterwards."""
     for number in sorted(claims):
         if number in claims:
-            flight = max((longest_claimed_range(number, step, claims) for step in DIRECTIONS), key=len)
+            flight = max((longest_claimed_range(number, step, claims) for step in DIRECTION_BY_STEP), key=len)
             claims.difference_update(flight)
             yield flight
 
@@ -68,7 +68,7 @@ def longest_claimed_range(number: int, step: int, claims: Container[int]) -> ran
     return range(number, end, step)
 
 
-def ranges_without(flight: range, claims: Collection[int]) -> Iterator[range]:
+def ranges_without_claims(flight: range, claims: Collection[int]) -> Iterator[range]:
     """Yields what is left of a flight without some blocks at times."""
     first = flight.start
     for number in filter(claims.__contains__, flight):
@@ -80,7 +80,7 @@ def ranges_without(flight: range, claims: Collection[int]) -> Iterator[range]:
 
 
 # A number of a flight that stays along it, its first time and its end.
-Entry = tuple[int, int, int]
+FlightEntry = tuple[int, int, int]
 
 
 class FlightTable:
@@ -88,11 +88,11 @@ class FlightTable:
     """
 
     def __init__(self) -> None:
-        self.by_column: dict[int, list[Entry]] = {}
-        self.by_row: dict[int, list[Entry]] = {}
-        self.by_diagonal: dict[int, list[Entry]] = {}
+        self.by_column: dict[int, list[FlightEntry]] = {}
+        self.by_row: dict[int, list[FlightEntry]] = {}
+        self.by_diagonal: dict[int, list[FlightEntry]] = {}
 
-    def filing_places(self, flight: Flight) -> Iterator[tuple[dict[int, list[Entry]], int, Entry]]:
+    def filing_places(self, flight: Flight) -> Iterator[tuple[dict[int, list[FlightEntry]], int, FlightEntry]]:
         """Yields where a flight is filed: a dictionary, the key there and the entry."""
         _, column, row, first, end = flight
         own = column, first, end
@@ -117,7 +117,7 @@ class FlightClaims:
     """Blocks at times that are claimed, as flights. What is added is taken away by the same parts."""
 
     def __init__(self) -> None:
-        self.tables = {direction: FlightTable() for direction in DIRECTIONS.values()}
+        self.tables = {direction: FlightTable() for direction in DIRECTION_BY_STEP.values()}
         self.count = 0
 
     def __len__(self) -> int:
@@ -126,21 +126,21 @@ class FlightClaims:
 
     def update(self, *parts: Iterable[int]) -> None:
         """Adds the blocks of parts."""
-        for flight in (flight for part in parts for flight in flights_of(part)):
+        for flight in (flight for part in parts for flight in flights_of_blocks(part)):
             self.tables[flight.direction].add(flight)
             self.count += 1
 
     def difference_update(self, *parts: Iterable[int]) -> None:
         """Takes the blocks of parts away that were added."""
-        for flight in (flight for part in parts for flight in flights_of(part)):
+        for flight in (flight for part in parts for flight in flights_of_blocks(part)):
             self.tables[flight.direction].remove(flight)
             self.count -= 1
 
     def isdisjoint(self, part: Iterable[int], /) -> bool:
         """Whether no block of a part is claimed."""
-        return not any(map(self.has_meeting, flights_of(part)))
+        return not any(map(self.is_flight_claimed, flights_of_blocks(part)))
 
-    def has_meeting(self, flight: Flight) -> bool:
+    def is_flight_claimed(self, flight: Flight) -> bool:
         """Whether a block of a flight is claimed."""
         (dx, dy), column, row, first, end = flight
         tables = self.tables

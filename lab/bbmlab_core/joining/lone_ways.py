@@ -13,7 +13,7 @@ from functools import cached_property
 from typing import Callable, Container, Iterable, Iterator
 
 from ..route.balls import Ball, block_cells, run_exactly, start_state
-from ..route.world import BITS, STEP_STRIDE, cell_number, cell_of_number
+from ..route.world import SINGLE_BITS, STEP_STRIDE, cell_number, cell_of_number
 from ..texts.layouts import Cell
 
 
@@ -68,7 +68,7 @@ class NumbersByTime:
             self.numbers.extend(numbers)
             self.ends.append(len(self.numbers))
 
-    def at(self, time: int) -> "array[int]":
+    def numbers_at(self, time: int) -> "array[int]":
         """Returns the numbers of a time."""
         index = time - self.first
         return self.numbers[self.ends[index]:self.ends[index + 1]]
@@ -111,7 +111,7 @@ class LoneRun:
     def __init__(self, mirrors: set[Cell], ball: Ball, steps: int, is_output: bool) -> None:
         self.is_output, self.bound = is_output, 0 if is_output else steps
         # The rule is run backwards from the last time, which is made time 1: blocks alternate, so it must be odd.
-        first = ball.time_reversed().moved(0, 0, 1) if is_output else ball
+        first = ball.time_reversed().shifted_by(0, 0, 1) if is_output else ball
         run = run_exactly(mirrors, start_state([(first, 1)]), first.time, first.time + steps)
         # A run backwards has the last state first.
         order = -1 if is_output else 1
@@ -128,24 +128,24 @@ class LoneRun:
     def timed_claims(self) -> Iterator[tuple[int, int]]:
         """Yields the blocks at times that the run claims, each with its time."""
         for time in self.corners.times:
-            for corner in self.corners.at(time):
+            for corner in self.corners.numbers_at(time):
                 yield time * STEP_STRIDE + corner, time
 
     def is_alone_in_block(self, time: int, corner: Cell, live: Container[Cell]) -> bool:
         """Whether the ball's own cells alone are live in a block."""
-        own = self.states.at(time)
+        own = self.states.numbers_at(time)
         return all((cell in live) == (cell_number(cell) in own) for cell in block_cells(corner))
 
-    def cut_times(self) -> range:
+    def possible_cut_times(self) -> range:
         """Returns the times at which the way may be cut, the best first."""
         if self.is_output:
             return range(self.bound, self.states.times.stop)
         return range(self.bound, -1, -1)
 
     @cached_property
-    def cut_balls(self) -> PackedBalls:
+    def possible_cut_balls(self) -> PackedBalls:
         """The balls at which the way may be cut, the best first. The last one leaves nothing out."""
-        cells = ((map(cell_of_number, self.states.at(time)), time) for time in self.cut_times())
+        cells = ((map(cell_of_number, self.states.numbers_at(time)), time) for time in self.possible_cut_times())
         return PackedBalls(ball for own, time in cells for ball in [lone_ball(own, time)] if ball)
 
     def left_out_steps(self, cut: int) -> range:
@@ -160,7 +160,7 @@ class LoneRuns:
         self.runs = runs
         # The runs that claim a block at a time, as the bits of a number.
         self.claimants: dict[int, int] = {}
-        for bit, run in zip(BITS, runs):
+        for bit, run in zip(SINGLE_BITS, runs):
             for claim, _ in run.timed_claims():
                 others = self.claimants.setdefault(claim, bit)
                 if others != bit:
@@ -168,9 +168,9 @@ class LoneRuns:
 
     def claimants_of(self, claim: int) -> Iterator[LoneRun]:
         """Yields the runs that claim a block at a time."""
-        return (run for bit, run in zip(BITS, self.runs) if self.claimants[claim] & bit)
+        return (run for bit, run in zip(SINGLE_BITS, self.runs) if self.claimants[claim] & bit)
 
-    def compare_blocks(self, time: int, claims: Iterable[int], live: Container[Cell]) -> None:
+    def note_meetings_in_blocks(self, time: int, claims: Iterable[int], live: Container[Cell]) -> None:
         """Compares the blocks in which something moves in the step from a time."""
         for claim in self.claimants.keys() & claims:
             for run in self.claimants_of(claim):
@@ -181,7 +181,7 @@ class LoneRuns:
 def left_out_way(run: LoneRun, ball: Ball, claim_count: Callable[[int], int], mirrors: set[Cell]) -> LoneWay:
     """Returns what a run leaves out if it is cut at a ball. `claim_count` tells how often the part claims a block."""
     steps = run.left_out_steps(ball.time)
-    moving = array("q", (time * STEP_STRIDE + cell for time in steps for cell in run.states.at(time)))
+    moving = array("q", (time * STEP_STRIDE + cell for time in steps for cell in run.states.numbers_at(time)))
     own = array("q", (claim for claim, time in run.timed_claims() if time in steps))
     own_counts = Counter(claim % STEP_STRIDE for claim in own)
     beside = {cell for corner in own_counts for cell in block_cells(cell_of_number(corner))} & mirrors

@@ -14,11 +14,11 @@ from ..route.balls import moving_path_cells
 from ..route.board import FailureKind, NoRouteError
 from ..route.netlist import RouterNetlist
 from ..route.paths import Path
-from ..route.world import ROW_STRIDE, STEP_STRIDE, TILE, Footprint, cell_of_number, cells_entering_tiles, tiles_of
+from ..route.world import ROW_STRIDE, STEP_STRIDE, TILE_SIDE, Footprint, cell_of_number, cells_entering_tiles, tiles_of
 from ..texts.certificates import MAX_CUTS, MAX_USES, Border, Module, ModuleDraft, Stop, local_wires
 from ..texts.layouts import Box, Cell
 from ..texts.limits import SECOND_LIMITS
-from ..texts.owners import NOBODY, Owners
+from ..texts.owners import NOBODY, BlockOwners
 from .composing import Composition
 from .parts import ALWAYS_SIGNAL
 from .planning import JoinPlan, PlacedPart
@@ -47,14 +47,14 @@ class JoinedModules:
 
     def __init__(self, composed: Composition, plan: JoinPlan) -> None:
         self.circuit, self.netlist, self.plan = composed.circuit, RouterNetlist(composed.circuit), plan
-        self.owners = Owners(plan.side, plan.side)
+        self.owners = BlockOwners(plan.side, plan.side)
         self.boxes: list[Box] = []
         self.origins: list[tuple[PlacedPart, Module]] = []
         for placed in plan.placed:
             for own in placed.part.bundle.certificate.modules:
                 self.add_box(placed.placing.placed_box(own.box))
                 self.origins.append((placed, own))
-        for box in self.tiles_between():
+        for box in self.tiles_outside_parts():
             self.add_box(box)
         self.known = [frozenset(local_wires(self.circuit, ModuleDraft(box, cuts=self.own_cuts(number),
                                                                       uses=self.own_uses(number))))
@@ -64,23 +64,25 @@ class JoinedModules:
 
     def add_box(self, box: Box) -> None:
         """Adds the box of a module."""
-        self.owners.give_blocks(box, len(self.boxes))
+        self.owners.give_blocks_if_free(box, len(self.boxes))
         self.boxes.append(box)
 
-    def tiles_between(self) -> Iterator[Box]:
+    def tiles_outside_parts(self) -> Iterator[Box]:
         """Yields boxes of at most a tile that have all cells outside the parts."""
-        for y in range(0, self.plan.side, TILE):
-            for x in range(0, self.plan.side, TILE):
+        for y in range(0, self.plan.side, TILE_SIDE):
+            for x in range(0, self.plan.side, TILE_SIDE):
                 if self.owners.owner_at((x, y)) == NOBODY:
-                    yield Box(x, y, TILE, TILE)
+                    yield Box(x, y, TILE_SIDE, TILE_SIDE)
                     continue
                 # A part begins at a tile's corner, so only the right and the lower cells of its last tiles are free.
-                wide = next((own for own in range(0, TILE, 2) if self.owners.owner_at((x + own, y)) == NOBODY), TILE)
-                high = next((own for own in range(0, TILE, 2) if self.owners.owner_at((x, y + own)) == NOBODY), TILE)
-                if wide < TILE:
-                    yield Box(x + wide, y, TILE - wide, TILE)
-                if high < TILE:
-                    yield Box(x, y + high, wide, TILE - high)
+                wide = next((own for own in range(0, TILE_SIDE, 2) if self.owners.owner_at((x + own, y)) == NOBODY),
+                            TILE_SIDE)
+                high = next((own for own in range(0, TILE_SIDE, 2) if self.owners.owner_at((x, y + own)) == NOBODY),
+                            TILE_SIDE)
+                if wide < TILE_SIDE:
+                    yield Box(x + wide, y, TILE_SIDE - wide, TILE_SIDE)
+                if high < TILE_SIDE:
+                    yield Box(x, y + high, wide, TILE_SIDE - high)
 
     # --- the part's own lines -----------------------------------------------------------------------------------------
 
@@ -112,17 +114,17 @@ class JoinedModules:
         module.keeps = [part.first_gate + number for number in own.keeps]
         module.edges = [Border(None if line.time is None else line.time + time, *cell(line.cell),
                                part.joined_wire(line.signal))
-                        for line in own.edges if cell_time_number(line) not in part.left_out_line_numbers]
+                        for line in own.edges if cell_time_number(line) not in part.left_out_cell_times]
         module.stops = [Stop(line.time + time, part.wires[line.name], *cell(line.cell)) for line in own.stops]
 
     # --- wires --------------------------------------------------------------------------------------------------------
 
     def signal_of(self, wire: str) -> str:
         """Returns the signal of a wire: `1` if it is always true."""
-        is_always = wire == ALWAYS_SIGNAL or self.netlist.constants.get(self.netlist.root(wire)) == 1
+        is_always = wire == ALWAYS_SIGNAL or self.netlist.constants.get(self.netlist.root_wire_of(wire)) == 1
         return ALWAYS_SIGNAL if is_always else wire
 
-    def hearers(self, cell: Cell) -> set[int]:
+    def module_numbers_near(self, cell: Cell) -> set[int]:
         """Returns the modules that have a cell in their box or its halo."""
         x, y = cell
         return {self.owners.owner_at((x + i, y + j)) for i in (-1, 1) for j in (-1, 1)} - {NOBODY}
@@ -135,9 +137,9 @@ class JoinedModules:
                 if self.boxes[number].has_in_ring(cell):
                     yield time, cell, number
 
-    def modules_hearing(self, path: Path) -> set[int]:
+    def module_numbers_near_path(self, path: Path) -> set[int]:
         """Returns the modules that must know the wire of a path."""
-        return {number for _, cell, _ in self.ring_cells_of_path(path) for number in self.hearers(cell)}
+        return {number for _, cell, _ in self.ring_cells_of_path(path) for number in self.module_numbers_near(cell)}
 
     def has_room_for(self, wire: str, numbers: Iterable[int]) -> bool:
         """Whether some modules have room for a wire."""
@@ -153,7 +155,7 @@ class JoinedModules:
                     return False
         return True
 
-    def room_test(self, wire: str) -> Callable[[Footprint], bool]:
+    def make_room_test(self, wire: str) -> Callable[[Footprint], bool]:
         """Returns what tells whether the modules that touch an item have room for a wire, as long as none changes."""
         known: dict[int, bool] = {}
 
@@ -163,7 +165,7 @@ class JoinedModules:
                      for number in cells_entering_tiles(part, own))
             for tile in tiles_of(cells):
                 if tile not in known:
-                    number = self.owners.owner_at((tile % ROW_STRIDE * TILE, tile // ROW_STRIDE * TILE))
+                    number = self.owners.owner_at((tile % ROW_STRIDE * TILE_SIDE, tile // ROW_STRIDE * TILE_SIDE))
                     known[tile] = number == NOBODY or self.has_room_for(wire, [number])
                 if not known[tile]:
                     return False
@@ -171,7 +173,7 @@ class JoinedModules:
 
         return has_room
 
-    def count_wire(self, wire: str, numbers: Iterable[int], change: int) -> None:
+    def change_wire_count(self, wire: str, numbers: Iterable[int], change: int) -> None:
         """Notes that a path brings a wire to modules, or no longer does."""
         for number in numbers if self.signal_of(wire) != ALWAYS_SIGNAL else ():
             if wire not in self.own_local_wires(number):
@@ -182,7 +184,7 @@ class JoinedModules:
         own, own_uses = self.own_cuts(number), self.own_uses(number)
         extra = sorted(({*+self.extra.get(number, Counter()), *more}) - self.own_local_wires(number),
                        key=self.circuit.rank)
-        constants = [wire for wire in extra if self.netlist.root(wire) in self.netlist.constants]
+        constants = [wire for wire in extra if self.netlist.root_wire_of(wire) in self.netlist.constants]
         used = {*own_uses, *self.circuit.cone_inputs_and_gates(constants)[1]} if constants else set(own_uses)
         plain = [wire for wire in extra if wire not in constants]
         if len(own) + len(plain) <= MAX_CUTS and not any(self.is_delay_of_known(wire, number) for wire in plain):
@@ -192,12 +194,12 @@ class JoinedModules:
 
     def is_delay_of_known(self, wire: str, number: int) -> bool:
         """Whether a wire is on one ball with a wire that a module knows, by delays: then it must not be free."""
-        root = self.netlist.root(wire)
-        return root != wire and any(self.netlist.root(own) == root for own in self.own_local_wires(number))
+        root = self.netlist.root_wire_of(wire)
+        return root != wire and any(self.netlist.root_wire_of(own) == root for own in self.own_local_wires(number))
 
     # --- the certificate ----------------------------------------------------------------------------------------------
 
-    def note_lines(self, paths: list[Path], ports: Iterable[tuple[Cell, str]]) -> None:
+    def note_border_lines(self, paths: list[Path], ports: Iterable[tuple[Cell, str]]) -> None:
         """Notes the lines of all paths and of their mirrors, and the wires of ports."""
         for cell, wire in ports:
             self.make_wire_local(wire, self.owners.owner_at(cell))
@@ -233,7 +235,7 @@ class JoinedModules:
                 if len(module.cuts) > MAX_CUTS or len(module.uses) > MAX_USES:
                     raise NoRouteError(f"the box at ({box.x}, {box.y}) needs {len(module.cuts)} wires; "
                                        f"{MAX_CUTS} is the most", FailureKind.WIRES)
-            yield module.module()
+            yield module.finished_module()
 
     def require_equal_stop_times(self) -> None:
         """Raises LabError if a gate gets wires with stops at different times: the program would say no."""
@@ -258,10 +260,10 @@ class JoinedModules:
         """Returns the boxes with the numbers of their modules, and None for a large box in place of many tiles."""
         tiles = range(len(self.origins), len(self.boxes))
         quiet = {(self.boxes[number].x, self.boxes[number].y) for number in tiles if self.is_quiet(number)}
-        width, height, side = self.plan.width, self.plan.height, QUIET_BOX_TILES * TILE
+        width, height, side = self.plan.width, self.plan.height, QUIET_BOX_TILES * TILE_SIDE
         large: dict[Cell, Cell] = {}
         for x, y in quiet:
-            group = [(x + i, y + j) for i in range(0, side, TILE) for j in range(0, side, TILE)]
+            group = [(x + i, y + j) for i in range(0, side, TILE_SIDE) for j in range(0, side, TILE_SIDE)]
             is_inside = x + side <= width and y + side <= height
             if x % side == 0 and y % side == 0 and is_inside and quiet.issuperset(group):
                 large |= dict.fromkeys(group, (x, y))
@@ -279,4 +281,5 @@ class JoinedModules:
     def is_quiet(self, number: int) -> bool:
         """Whether a module is a whole tile that nothing reaches."""
         box = self.boxes[number]
-        return box.width == box.height == TILE and not self.lines.get(number) and not +self.extra.get(number, Counter())
+        return (box.width == box.height == TILE_SIDE and not self.lines.get(number)
+                and not +self.extra.get(number, Counter()))

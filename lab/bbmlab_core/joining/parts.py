@@ -8,16 +8,16 @@ from typing import Collection, Iterable, Sequence
 from weakref import WeakValueDictionary
 
 from ..host.terminal import LabError
-from ..physics.simulation import local_values
+from ..physics.simulation import local_wire_tables
 from ..route.balls import Ball, block_corner, state_after_step
 from ..route.netlist import RouterNetlist
 from ..route.world import ROW_STRIDE, ROW_BITS, STEP_STRIDE, Footprint, cell_number, cell_of_number
 from ..texts.certificates import Border, Certificate, Module
 from ..texts.circuits import Circuit
 from ..texts.documents import read_document
-from ..texts.gates import Table
+from ..texts.gates import TruthTable
 from ..texts.layouts import Cell, Layout
-from ..texts.owners import Owners
+from ..texts.owners import BlockOwners
 from ..texts.refusals import refusal_words
 from .flight_claims import pop_flight_ranges
 from .lone_ways import LoneRun, LoneRuns, LoneWay, left_out_way, whole_balls_of
@@ -38,7 +38,7 @@ class PartPort:
     lone_run: LoneRun | None = None
 
 
-class BlockCounts:
+class BlockClaimCounts:
     """How often each block of a layout is claimed, by the number of its upper left cell."""
 
     def __init__(self, layout: Layout, claims: Iterable[int] = ()) -> None:
@@ -68,7 +68,7 @@ class PartBundle:
     item: Footprint
     start_fault: str = ""
     end_fault: str = ""
-    counts: BlockCounts = field(default_factory=lambda: BlockCounts(Layout(0, 0, 0)))
+    counts: BlockClaimCounts = field(default_factory=lambda: BlockClaimCounts(Layout(0, 0, 0)))
     # The lone ways of wires that are cut at a time, and what the part takes without some of them, while it is in use.
     ways: dict[tuple[str, int], LoneWay] = field(default_factory=dict)
     footprints_by_cuts: "WeakValueDictionary[frozenset[tuple[str, int]], Footprint]" = field(
@@ -80,7 +80,7 @@ class PartBundle:
         return [part for part in self.item.claim_parts if isinstance(part, range)]
 
     @property
-    def is_cheaper_later(self) -> bool:
+    def is_cheaper_to_begin_later(self) -> bool:
         """Whether it takes fewer steps of balls to begin the part later than to lead its balls on."""
         return not self.start_fault and len(self.starts) < len(self.ends)
 
@@ -107,10 +107,10 @@ def read_part(name: str, text: str, connected: Collection[str] = ()) -> PartBund
     lone = {} if not connected else lone_runs(circuit, layout, certificate, connected)
     run = PartRun(circuit, layout, certificate, LoneRuns(list(lone.values())))
     last = run.run()
-    counts = BlockCounts(layout, run.claims)
+    counts = BlockClaimCounts(layout, run.claims)
     item = part_footprint(frozenset(map(cell_number, run.mirrors)), list(pop_flight_ranges(run.claims)))
-    starts, start_fault = start_ports(layout)
-    ends, end_fault = end_ports(circuit, layout, run.waste_wires_at_end(last))
+    starts, start_fault = start_ports_and_fault(layout)
+    ends, end_fault = end_ports_and_fault(circuit, layout, run.waste_wires_at_end(last))
     starts = [replace(port, lone_run=lone.get(("in", port.wire))) for port in starts]
     ends = [replace(port, lone_run=lone.get(("out", port.wire))) for port in ends]
     return PartBundle(circuit, layout, certificate, starts, ends, item, start_fault, end_fault, counts)
@@ -137,16 +137,16 @@ def lone_runs(circuit: Circuit, layout: Layout, certificate: Certificate,
     return runs
 
 
-def start_ports(layout: Layout) -> tuple[list[PartPort], str]:
+def start_ports_and_fault(layout: Layout) -> tuple[list[PartPort], str]:
     """Returns the balls at time 0, and why they are none if that is so."""
     cells: dict[str, list[Cell]] = defaultdict(list)
     for part in layout.parts:
         if part.kind in ("in", "ball"):
             cells[part.name or ALWAYS_SIGNAL].append(part.cell)
-    return ports_of_cells(cells, 0, "start")
+    return ports_and_fault_of_cells(cells, 0, "start")
 
 
-def end_ports(circuit: Circuit, layout: Layout, wastes: dict[Cell, str | None]) -> tuple[list[PartPort], str]:
+def end_ports_and_fault(circuit: Circuit, layout: Layout, wastes: dict[Cell, str | None]) -> tuple[list[PartPort], str]:
     """Returns the balls at the last time, without cells that are never live, and why they are none if that is so."""
     cells: dict[str, list[Cell]] = defaultdict(list)
     netlist = RouterNetlist(circuit)
@@ -157,10 +157,10 @@ def end_ports(circuit: Circuit, layout: Layout, wastes: dict[Cell, str | None]) 
         if wire is None:
             return [], f"the `waste` cell ({cell[0]}, {cell[1]}) carries no wire"
         cells[wire].append(cell)
-    return ports_of_cells(cells, layout.steps, "end")
+    return ports_and_fault_of_cells(cells, layout.steps, "end")
 
 
-def ports_of_cells(cells: dict[str, list[Cell]], time: int, what: str) -> tuple[list[PartPort], str]:
+def ports_and_fault_of_cells(cells: dict[str, list[Cell]], time: int, what: str) -> tuple[list[PartPort], str]:
     """Returns the balls of the cells of each wire, and why they are none if that is so."""
     ports: list[PartPort] = []
     for wire, own in cells.items():
@@ -197,7 +197,7 @@ class PartRun:
 
     def __init__(self, circuit: Circuit, layout: Layout, certificate: Certificate, lone: LoneRuns) -> None:
         self.circuit, self.layout, self.certificate, self.lone = circuit, layout, certificate, lone
-        self.owners: Owners = certificate.owners
+        self.owners: BlockOwners = certificate.owners
         self.mirrors = layout.mirror_cells()
         self.claims: set[int] = set()
         self.starts: dict[int, dict[Cell, str]] = defaultdict(dict)
@@ -209,16 +209,16 @@ class PartRun:
         for module in certificate.modules:
             for line in module.edges:
                 if line.time is not None or line.cell not in self.mirrors:
-                    self.note_edge(module, line)
+                    self.note_edge_in_halos(module, line)
 
-    def note_edge(self, module: Module, line: Border) -> None:
+    def note_edge_in_halos(self, module: Module, line: Border) -> None:
         """Notes which modules hear a line."""
         x, y = line.cell
         near = {self.owners.owner_at((x + i, y + j)) for i in (-1, 1) for j in (-1, 1)}
         for number in near - {module.number, -1}:
             self.heard[number].append(line)
 
-    def pop_heard_wires(self, number: int) -> dict[int, dict[Cell, str]]:
+    def pop_halo_wires(self, number: int) -> dict[int, dict[Cell, str]]:
         """Returns the wires of the cells that a module hears, by time."""
         heard: dict[int, dict[Cell, str]] = defaultdict(dict)
         for line in self.heard.pop(number, ()):
@@ -226,20 +226,20 @@ class PartRun:
                 heard[time][line.cell] = line.signal
         return heard
 
-    def run(self) -> dict[Cell, tuple[Module, Table]]:
+    def run(self) -> dict[Cell, tuple[Module, TruthTable]]:
         """Runs all modules; returns the cells that move at the end, with their tables."""
-        last: dict[Cell, tuple[Module, Table]] = {}
+        last: dict[Cell, tuple[Module, TruthTable]] = {}
         for module in self.certificate.modules:
             last.update((cell, (module, table)) for cell, table in self.run_module(module).items())
         return last
 
-    def run_module(self, module: Module) -> dict[Cell, Table]:
+    def run_module(self, module: Module) -> dict[Cell, TruthTable]:
         """Runs a module, notes the blocks in which something moves, and returns the cells that move at the end."""
-        heard, box, steps = self.pop_heard_wires(module.number), module.box, self.layout.steps
+        heard, box, steps = self.pop_halo_wires(module.number), module.box, self.layout.steps
         times, starts = sorted(heard, reverse=True), self.starts[module.number]
         if not times and not starts:
             return {}
-        values = local_values(self.circuit, module)
+        values = local_wire_tables(self.circuit, module)
         full = values.full
         for table in values.defined_columns_by_gate.values():
             full &= table
@@ -259,14 +259,14 @@ class PartRun:
             corners = {block_corner(cell, time) for cell in now}
             claims = {time * STEP_STRIDE + y * ROW_STRIDE + x for x, y in corners}
             self.claims |= claims
-            self.lone.compare_blocks(time, claims, now.keys())
+            self.lone.note_meetings_in_blocks(time, claims, now.keys())
             following = state_after_step(self.mirrors, now, full, corners)
             if following is None:
                 raise LabError("a module of a bundle with a yes does not run: this is an error of the lab")
             live, time = {cell: table for cell, table in following.items() if box.has(cell)}, time + 1
         return live
 
-    def waste_wires_at_end(self, last: dict[Cell, tuple[Module, Table]]) -> dict[Cell, str | None]:
+    def waste_wires_at_end(self, last: dict[Cell, tuple[Module, TruthTable]]) -> dict[Cell, str | None]:
         """Returns the wire of each `waste` cell that may be live at the last time, or None if it carries none."""
         netlist, wires = RouterNetlist(self.circuit), dict[Cell, str | None]()
         spills = set(self.circuit.spills)
@@ -274,13 +274,14 @@ class PartRun:
             if part.cell not in last:
                 continue
             module, table = last[part.cell]
-            values = local_values(self.circuit, module)
+            values = local_wire_tables(self.circuit, module)
             full = values.full
             for rows in values.defined_columns_by_gate.values():
                 full &= rows
             names = [name for name, own in values.tables.items() if own & full == table]
             names.sort(key=lambda name: (name not in spills, self.circuit.rank(name)))
             wire = names[0] if names else (ALWAYS_SIGNAL if table == full else None)
-            wires[part.cell] = ALWAYS_SIGNAL if wire is not None and netlist.constants.get(netlist.root(wire)) else wire
+            is_always = wire is not None and netlist.constants.get(netlist.root_wire_of(wire))
+            wires[part.cell] = ALWAYS_SIGNAL if is_always else wire
         return wires
 

@@ -8,11 +8,11 @@ import itertools
 from dataclasses import dataclass
 from typing import Iterator, Sequence
 
-from ..route.world import TILE
+from ..route.world import TILE_SIDE
 
 # The cells between a part and the border, and between two parts: at least, and at most.
-LEAST_GAP = 2 * TILE
-MOST_GAP = 24 * TILE
+LEAST_GAP = 2 * TILE_SIDE
+MOST_GAP = 24 * TILE_SIDE
 
 
 @dataclass(frozen=True)
@@ -30,7 +30,7 @@ class Extent:
 Place = tuple[int, int]
 
 
-def all_places(areas: Sequence[Extent], side: int, can_turn: bool = False) -> Iterator[list[Place]]:
+def place_arrangements(areas: Sequence[Extent], side: int, can_turn: bool = False) -> Iterator[list[Place]]:
     """Yields the places of areas in their order on a square, in eight ways for each number of rows in which they have
     room.
 
@@ -48,11 +48,11 @@ def all_places(areas: Sequence[Extent], side: int, can_turn: bool = False) -> It
 
 def places_in_rows(areas: Sequence[Extent], side: int, more: int = 0) -> list[Place] | None:
     """Returns places in as few rows as can be and some more ones, or None if they have no room."""
-    count = len(filled_rows(areas, side, len(areas))) + more
+    count = len(packed_rows(areas, side, len(areas))) + more
     if count > len(areas):
         return None
     # As many areas in each row as are needed for the same number of rows.
-    rows = filled_rows(areas, side, -(-len(areas) // count))
+    rows = packed_rows(areas, side, -(-len(areas) // count))
     if len(rows) != count:
         return None
     heights = [max(own.height for own in row) for row in rows]
@@ -61,14 +61,14 @@ def places_in_rows(areas: Sequence[Extent], side: int, more: int = 0) -> list[Pl
     if sum(height + LEAST_GAP for height in heights) + LEAST_GAP > side:
         return None
     places: list[Place] = []
-    for index, (row, y) in enumerate(zip(rows, spread_starts(heights, side))):
+    for index, (row, y) in enumerate(zip(rows, evenly_spaced_starts(heights, side))):
         own = row[::-1] if index % 2 else row
-        found = [(x, y) for x in spread_starts([area.width for area in own], side)]
+        found = [(x, y) for x in evenly_spaced_starts([area.width for area in own], side)]
         places += found[::-1] if index % 2 else found
     return places
 
 
-def filled_rows(areas: Sequence[Extent], side: int, most: int) -> list[list[Extent]]:
+def packed_rows(areas: Sequence[Extent], side: int, most: int) -> list[list[Extent]]:
     """Returns the areas in rows, each with as many as have room, at most `most`."""
     rows: list[list[Extent]] = []
     for own in areas:
@@ -80,8 +80,8 @@ def filled_rows(areas: Sequence[Extent], side: int, most: int) -> list[list[Exte
     return rows
 
 
-def spread_starts(lengths: list[int], side: int) -> list[int]:
+def evenly_spaced_starts(lengths: list[int], side: int) -> list[int]:
     """Returns where lengths in a row begin, in the middle of a side and with equal gaps of whole tiles."""
-    gap = min(MOST_GAP, (side - sum(lengths)) // (len(lengths) + 1)) // TILE * TILE
-    first = (side - sum(lengths) - gap * (len(lengths) - 1)) // 2 // TILE * TILE
+    gap = min(MOST_GAP, (side - sum(lengths)) // (len(lengths) + 1)) // TILE_SIDE * TILE_SIDE
+    first = (side - sum(lengths) - gap * (len(lengths) - 1)) // 2 // TILE_SIDE * TILE_SIDE
     return [first + gap * index + sum(lengths[:index]) for index in range(len(lengths))]

@@ -7,21 +7,21 @@ import math
 from dataclasses import dataclass
 
 from ..route.balls import Ball
-from ..route.world import TILE
+from ..route.world import TILE_SIDE
 from ..texts.layouts import Cell
 from ..texts.limits import SECOND_LIMITS
 from .composing import Composition, NamedPart
-from .places import LEAST_GAP, Extent, Place, all_places
-from .turning import ORIENTATIONS, UPRIGHT, Placing, PartOrientation
+from .places import LEAST_GAP, Extent, Place, place_arrangements
+from .turning import ORIENTATIONS, UNTURNED, PartTransform, PartOrientation
 
 # The part of the plane between the parts that may be taken by estimate, and the cells that a ball newly touches in a
 # step.
 FILL_SHARE = 0.2
-STEP_CELLS = 2.6
+NEW_CELLS_PER_STEP = 2.6
 
 
 @dataclass(frozen=True)
-class Spare:
+class SpareSteps:
     """The steps to spare of balls between two parts: for each cell of the way, and further ones.
 
     Balls fly round what is in the way.
@@ -42,10 +42,11 @@ def offsets_between(first: Ball, last: Ball) -> tuple[int, int]:
 
 # The steps to spare of each ball between two parts: the next ones if it could not be led, or if the columns or rows of
 # its way are more than a part of the others: it has few ways to go.
-SPARES = (Spare(0.1, 60), Spare(0.2, 100), Spare(0.35, 150), Spare(0.35, 250), Spare(0.35, 350))
+SPARES = (SpareSteps(0.1, 60), SpareSteps(0.2, 100), SpareSteps(0.35, 150), SpareSteps(0.35, 250),
+          SpareSteps(0.35, 350))
 MAX_OFFSET_RATIO = 0.6
 # A ball that is led deeper into its part than so many cells gets a step to spare for each further cell.
-SHALLOW_CELLS = 150
+SHALLOW_DEPTH_CELLS = 150
 # The place of the first spare steps in `SPARES` if a ball is led so deep.
 DEEP_SPARE_INDEX = 2
 # How often all parts are turned anew.
@@ -62,13 +63,13 @@ class PlacedPart:
     x: int = 0
     y: int = 0
     time: int = 0
-    turning: PartOrientation = UPRIGHT
+    turning: PartOrientation = UNTURNED
 
     @property
-    def placing(self) -> Placing:
+    def placing(self) -> PartTransform:
         """Where the part's plane is in the join."""
         layout = self.part.bundle.layout
-        return Placing(layout.width, layout.height, self.x, self.y, self.time, self.turning)
+        return PartTransform(layout.width, layout.height, self.x, self.y, self.time, self.turning)
 
     def placed_ball(self, ball: Ball) -> Ball:
         """Returns a ball of the part where and when it is in the join."""
@@ -82,13 +83,13 @@ class PlacedPart:
     def extent(self) -> Extent:
         """The width and the height in cells, in whole tiles."""
         layout = self.part.bundle.layout
-        return Extent(-(-layout.width // TILE) * TILE, -(-layout.height // TILE) * TILE)
+        return Extent(-(-layout.width // TILE_SIDE) * TILE_SIDE, -(-layout.height // TILE_SIDE) * TILE_SIDE)
 
     def excess_depth(self, ball: Ball) -> int:
-        """Returns how many cells deeper than `SHALLOW_CELLS` a ball is in the part, or 0."""
+        """Returns how many cells deeper than `SHALLOW_DEPTH_CELLS` a ball is in the part, or 0."""
         area = self.extent
         return max(0, min(ball.x - self.x, self.x + area.width - ball.x,
-                          ball.y - self.y, self.y + area.height - ball.y) - SHALLOW_CELLS)
+                          ball.y - self.y, self.y + area.height - ball.y) - SHALLOW_DEPTH_CELLS)
 
     @property
     def end_time(self) -> int:
@@ -134,7 +135,7 @@ class JoinPlan:
     height: int
 
 
-def first_spares(composed: Composition) -> SpareIndices:
+def first_spare_indices(composed: Composition) -> SpareIndices:
     """Returns the spare steps of the first plan: more if some ball is led deep into its part."""
     parts = {part.name: PlacedPart(part) for part in composed.parts}
     goals = ((parts[own.target], part_input_ball(parts[own.target], own.input)) for own in composed.connections)
@@ -150,16 +151,16 @@ def make_plan(composed: Composition, side: int, spares: SpareIndices) -> JoinPla
     """
     areas = [PlacedPart(part).extent for part in composed.parts]
     can_turn = all(fitting_orientations(PlacedPart(part)) == ORIENTATIONS for part in composed.parts)
-    found = [placed_parts(composed, places, spares) for places in all_places(areas, side, can_turn)]
+    found = [placed_parts(composed, places, spares) for places in place_arrangements(areas, side, can_turn)]
     if not found:
         return None
     placed = min(found, key=last_time)
     end = last_time(placed)
     for own in placed:
         feeds_none = not any(connection.source == own.part.name for connection in composed.connections)
-        if feeds_none and own.part.bundle.is_cheaper_later:
+        if feeds_none and own.part.bundle.is_cheaper_to_begin_later:
             own.time += (end - own.end_time) // 2 * 2
-    return JoinPlan(side, end, placed, jobs_of(composed, {own.part.name: own for own in placed}, end), side, side)
+    return JoinPlan(side, end, placed, ball_jobs_of(composed, {own.part.name: own for own in placed}, end), side, side)
 
 
 def last_time(placed: list[PlacedPart]) -> int:
@@ -170,16 +171,16 @@ def last_time(placed: list[PlacedPart]) -> int:
 def placed_parts(composed: Composition, places: list[Place], spares: SpareIndices) -> list[PlacedPart]:
     """Returns the parts at some places, each turned so that the last one ends early."""
     placed = [PlacedPart(part, x, y) for part, (x, y) in zip(composed.parts, places)]
-    set_times(composed, placed, spares)
+    set_part_times(composed, placed, spares)
     connected = {name for own in composed.connections for name in (own.source, own.target)}
     for own in (own for _ in range(ORIENTATION_ROUNDS) for own in placed if own.part.name in connected):
         ends = dict[PartOrientation, tuple[int, int]]()
         for turning in fitting_orientations(own):
             own.turning = turning
-            set_times(composed, placed, spares)
+            set_part_times(composed, placed, spares)
             ends[turning] = last_time(placed), sum(other.time for other in placed)
         own.turning = min(ends, key=lambda turning: ends[turning])
-    set_times(composed, placed, spares)
+    set_part_times(composed, placed, spares)
     return placed
 
 
@@ -187,11 +188,11 @@ def fitting_orientations(placed: PlacedPart) -> list[PartOrientation]:
     """Returns the turnings with which a part takes the same place. Blocks stay blocks if its sides are even."""
     layout, area = placed.part.bundle.layout, placed.extent
     if layout.width % 2 or layout.height % 2:
-        return [UPRIGHT]
+        return [UNTURNED]
     return [own for own in ORIENTATIONS if area.width == area.height or not own.is_turned]
 
 
-def set_times(composed: Composition, placed: list[PlacedPart], spares: SpareIndices) -> None:
+def set_part_times(composed: Composition, placed: list[PlacedPart], spares: SpareIndices) -> None:
     """Sets the times of placed parts: each is as early as its balls can come."""
     by_name = {own.part.name: own for own in placed}
     for own in placed:
@@ -221,7 +222,7 @@ def part_input_ball(placed: PlacedPart, wire: str) -> Ball:
     return placed.placed_ball(placed.part.inner_ball(placed.part.bundle.starts, wire))
 
 
-def jobs_of(composed: Composition, placed: dict[str, PlacedPart], end: int) -> list[BallJob]:
+def ball_jobs_of(composed: Composition, placed: dict[str, PlacedPart], end: int) -> list[BallJob]:
     """Returns the balls to lead: between parts, to parts that begin later, and from parts that end earlier."""
     given = {(own.source, own.output) for own in composed.connections}
     taken = {(own.target, own.input) for own in composed.connections}
@@ -248,7 +249,8 @@ def estimated_side(composed: Composition, spares: SpareIndices) -> int:
         plan = make_plan(composed, side, spares)
         if plan is not None:
             free = side ** 2 - sum(own.extent.width * own.extent.height for own in plan.placed)
-            if STEP_CELLS * sum(job.steps for job in plan.jobs) <= FILL_SHARE * free:
+            if NEW_CELLS_PER_STEP * sum(job.steps for job in plan.jobs) <= FILL_SHARE * free:
                 break
-        side = min(SECOND_LIMITS.max_side, (math.ceil(side * 1.05) + 2 * TILE - 1) // (2 * TILE) * 2 * TILE)
+        side = min(SECOND_LIMITS.max_side,
+                   (math.ceil(side * 1.05) + 2 * TILE_SIDE - 1) // (2 * TILE_SIDE) * 2 * TILE_SIDE)
     return side

@@ -11,11 +11,11 @@ from ..route.balls import Ball
 from .composing import Composition, Connection, NamedPart
 from .lone_ways import LoneRun
 from .parts import PartPort
-from .planning import JoinPlan, PlacedPart, SpareIndices, part_output_ball, jobs_of, part_input_ball, steps_needed
+from .planning import JoinPlan, PlacedPart, SpareIndices, part_output_ball, ball_jobs_of, part_input_ball, steps_needed
 
 # A ball with at most so many more steps than it needs is led as it is. Others keep at least the spare steps of this
 # place.
-LEAST_SLACK = 300
+LEAST_SLACK_STEPS = 300
 LEAST_SPARE_INDEX = 2
 # The steps around a cut from which its ball could not leave: no other cut is made there.
 NEAR_CLOSED_STEPS = 160
@@ -49,9 +49,9 @@ class LoneWayCuts:
         self.cuts: dict[tuple[str, str], tuple[LoneRun, Ball]] = {}
         self.moved: list[WayCut] = []
         for index, own in enumerate(made.connections):
-            self.cut_connection(index, own)
+            self.cut_ways_of_connection(index, own)
 
-    def cut_connection(self, index: int, own: Connection) -> None:
+    def cut_ways_of_connection(self, index: int, own: Connection) -> None:
         """Cuts the ways of a connection if its ball has much time to spare."""
         source, target = self.placed[own.source], self.placed[own.target]
         spare = max(LEAST_SPARE_INDEX, self.spares[index])
@@ -61,30 +61,31 @@ class LoneWayCuts:
             """Whether a ball has time from one ball to another one, and so many steps more."""
             return steps_needed(target, begin, end, spare) <= end.time - begin.time - slack
 
-        if not has_time(first, last, LEAST_SLACK + 1):
+        if not has_time(first, last, LEAST_SLACK_STEPS + 1):
             return
-        moved = self.cut_at_last_ball(index, source, source.part.bundle.ends, own.output,
-                                      lambda ball: has_time(ball, last))
+        moved = self.try_cut_at_last_ball(index, source, source.part.bundle.ends, own.output,
+                                          lambda ball: has_time(ball, last))
         first = moved or first
-        self.cut_at_last_ball(index, target, target.part.bundle.starts, own.input, lambda ball: has_time(first, ball))
+        self.try_cut_at_last_ball(index, target, target.part.bundle.starts, own.input,
+                                  lambda ball: has_time(first, ball))
 
-    def cut_at_last_ball(self, index: int, placed: PlacedPart, ports: list[PartPort], wire: str,
-                         has_time: Callable[[Ball], bool]) -> Ball | None:
+    def try_cut_at_last_ball(self, index: int, placed: PlacedPart, ports: list[PartPort], wire: str,
+                             has_time: Callable[[Ball], bool]) -> Ball | None:
         """Cuts the lone way of a port at the last ball that has time enough and can leave. Returns that ball, or None.
         """
         run = lone_run_of(placed.part, ports, wire)
-        for ball in reversed(run.cut_balls) if run else ():
-            if has_time(placed.placed_ball(ball)) and self.cut_at_ball(index, (placed.part.name, wire), run, ball):
+        for ball in reversed(run.possible_cut_balls) if run else ():
+            if has_time(placed.placed_ball(ball)) and self.try_cut_at_ball(index, (placed.part.name, wire), run, ball):
                 return placed.placed_ball(ball)
         return None
 
-    def cut_at_ball(self, index: int, port: tuple[str, str], run: LoneRun | None, ball: Ball) -> bool:
+    def try_cut_at_ball(self, index: int, port: tuple[str, str], run: LoneRun | None, ball: Ball) -> bool:
         """Cuts the lone way of a port at a ball, if a ball can leave there; returns whether that is so."""
         assert run is not None
         cut = WayCut(index, run.is_output, ball.time)
         if is_near_closed(cut, self.closed):
             return False
-        if ball != run.cut_balls[0]:
+        if ball != run.possible_cut_balls[0]:
             self.cuts[port] = run, ball
             self.moved.append(cut)
         return True
@@ -92,7 +93,7 @@ class LoneWayCuts:
     def plan_with_cuts(self) -> JoinPlan:
         """Returns the plan with parts that are cut so, and their balls."""
         placed = [replace(own, part=self.part_with_cuts(own.part)) for own in self.plan.placed]
-        jobs = jobs_of(self.made, {own.part.name: own for own in placed}, self.plan.end)
+        jobs = ball_jobs_of(self.made, {own.part.name: own for own in placed}, self.plan.end)
         return replace(self.plan, placed=placed, jobs=jobs)
 
     def part_with_cuts(self, part: NamedPart) -> NamedPart:

@@ -21,7 +21,7 @@ class PartOrientation(NamedTuple):
     is_flipped: bool = False
 
 
-UPRIGHT = PartOrientation()
+UNTURNED = PartOrientation()
 ORIENTATIONS = [PartOrientation(*own) for own in itertools.product((False, True), repeat=3)]
 
 
@@ -51,12 +51,12 @@ class NumberMap(NamedTuple):
         step = self(own[1]) - first if len(own) > 1 else 1
         return range(first, first + step * len(own), step)
 
-    def map_item_part(self, part: Iterable[int]) -> "range | array[int]":
+    def map_footprint_part(self, part: Iterable[int]) -> "range | array[int]":
         """Returns what the numbers of a part of an item become."""
         return self.map_range(part) if isinstance(part, range) else self.map_all(part)
 
 
-class Placing(NamedTuple):
+class PartTransform(NamedTuple):
     """Where a part's plane of some columns and rows is: turned, and moved by even numbers of cells and steps."""
 
     width: int
@@ -64,7 +64,7 @@ class Placing(NamedTuple):
     x: int = 0
     y: int = 0
     time: int = 0
-    turning: PartOrientation = UPRIGHT
+    turning: PartOrientation = UNTURNED
 
     def placed_box(self, box: Box) -> Box:
         """Returns a box of the part where it is."""

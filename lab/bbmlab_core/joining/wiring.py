@@ -13,15 +13,15 @@ from typing import Callable, Collection, Iterator
 
 from ..route.balls import Ball, Leg, follow_legs, reversed_legs
 from ..route.board import FailureKind, NoRouteError
-from ..route.coil_ways import CoiledPath, CoilGround, CoilSearch, OpenSearch
+from ..route.coil_ways import CoiledPath, CoilGround, CoilSearch, OpenGroundSearch
 from ..route.paths import Path, PathFinder, Trail, is_in_reach
-from ..route.settings import Settings
-from ..route.world import STEP_STRIDE, TILE, Footprint, World, cell_number, cell_of_number, path_item
+from ..route.settings import RouterSettings
+from ..route.world import STEP_STRIDE, TILE_SIDE, Footprint, RoutingGrid, cell_number, cell_of_number, path_footprint
 from ..texts.layouts import Box
 from .flight_claims import FlightClaims
 from .modules import JoinedModules
 from .parts import ALWAYS_SIGNAL
-from .planning import SHALLOW_CELLS, SPARES, BallJob, JoinPlan, PlacedPart
+from .planning import SHALLOW_DEPTH_CELLS, SPARES, BallJob, JoinPlan, PlacedPart
 
 # The steps at the open ends of balls that wait which are kept free, the first that fit.
 STUB_STEPS = (20, 14, 10, 6, 3)
@@ -34,8 +34,8 @@ CONNECT_TRIES = 12
 STEPS_BACK_RANGE = (60, 300)
 JOIN_STEPS_RANGE = (80, 260)
 # The ways to open ground that are tried at each end if no such path is found, and the tries to join two of them.
-OPEN_WAYS = 4
-OPEN_TRIES = 3
+OPEN_GROUND_WAYS = 4
+OPEN_GROUND_TRIES = 3
 # The cost of a step to the other end while open ground is sought: searches go there with each of these.
 GOAL_STEP_COSTS = (4.0, 1.0, 12.0)
 # The steps for which a ball is led to see that it can leave its part.
@@ -58,7 +58,7 @@ LEAST_COIL_STEPS = 400
 COIL_TO_PART_CELLS = 80
 
 
-class TightError(NoRouteError):
+class TooFewStepsError(NoRouteError):
     """Some balls between two parts could not be led in the time that they got. `connections` has their numbers."""
 
     def __init__(self, message: str, connections: list[int]) -> None:
@@ -73,12 +73,12 @@ class SealedPath(CoiledPath):
     sealed: Footprint
 
 
-def world_item(path: Path) -> Footprint:
+def occupied_footprint(path: Path) -> Footprint:
     """Returns what a path takes in the world."""
     return path.sealed if isinstance(path, SealedPath) else path.item
 
 
-def sealed_item(item: Footprint, box: Box) -> Footprint:
+def sealed_footprint(item: Footprint, box: Box) -> Footprint:
     """Returns what a path takes whose coil no other ball can enter: the ring of its box is closed as by mirrors."""
     flights = (part for part in item.claim_parts if isinstance(part, range))
     claims = tuple(part for part in flights
@@ -86,7 +86,7 @@ def sealed_item(item: Footprint, box: Box) -> Footprint:
     return Footprint(item.mirrors.union(map(cell_number, box.ring())), item.touched_parts, claims)
 
 
-class JoinWorld(World):
+class JoinRoutingGrid(RoutingGrid):
     """A world with parts, in which cells inside a part are dear: balls leave parts, so that they enclose no other port.
 
     Without this, 59 of 85 balls of four joined adders were led before the search ended, and with it all.
@@ -98,18 +98,19 @@ class JoinWorld(World):
         self.boxes = [(own.x, own.y, own.x + own.extent.width, own.y + own.extent.height) for own in plan.placed]
         # Parts are at whole tiles, and take whole tiles.
         self.box_of_tile = {(column, row): box for box in self.boxes
-                            for column in range(box[0] // TILE, box[2] // TILE)
-                            for row in range(box[1] // TILE, box[3] // TILE)}
+                            for column in range(box[0] // TILE_SIDE, box[2] // TILE_SIDE)
+                            for row in range(box[1] // TILE_SIDE, box[3] // TILE_SIDE)}
 
     def add_part(self, placed: PlacedPart) -> None:
         """Adds a part where and when it is in the join."""
         item, cells, blocks = placed.part.footprint, placed.placing.cell_number_map(), placed.placing.block_number_map()
-        self.add(Footprint(frozenset(cells.map_all(item.mirrors)), tuple(map(cells.map_item_part, item.touched_parts)),
-                           tuple(map(blocks.map_item_part, item.claim_parts))))
+        self.add(Footprint(frozenset(cells.map_all(item.mirrors)),
+                           tuple(map(cells.map_footprint_part, item.touched_parts)),
+                           tuple(map(blocks.map_footprint_part, item.claim_parts))))
 
-    def depth(self, x: int, y: int) -> int:
+    def depth_in_part(self, x: int, y: int) -> int:
         """Returns how far a cell is from the border of the part that it is in, or 0."""
-        box = self.box_of_tile.get((x // TILE, y // TILE))
+        box = self.box_of_tile.get((x // TILE_SIDE, y // TILE_SIDE))
         if box is None:
             return 0
         left, top, right, bottom = box
@@ -117,7 +118,8 @@ class JoinWorld(World):
 
     def flight_cost(self, ball: Ball, steps: int) -> int:
         """Returns the cost of a straight flight: the cells that it newly touches, but more inside a part."""
-        depth, far = self.depth(ball.x, ball.y), self.depth(ball.x + steps * ball.dx, ball.y + steps * ball.dy)
+        depth = self.depth_in_part(ball.x, ball.y)
+        far = self.depth_in_part(ball.x + steps * ball.dx, ball.y + steps * ball.dy)
         if depth or far:
             return INSIDE_STEP_COST * steps + INWARD_STEP_COST * (far - depth)
         return super().flight_cost(ball, steps)
@@ -132,15 +134,16 @@ def require_before_deadline(deadline: float) -> None:
 class JoinWiring:
     """The paths of a join, in a world that has its parts."""
 
-    def __init__(self, plan: JoinPlan, modules: JoinedModules, seed: int, settings: Settings, deadline: float) -> None:
+    def __init__(self, plan: JoinPlan, modules: JoinedModules, seed: int, settings: RouterSettings,
+                 deadline: float) -> None:
         self.plan, self.modules, self.settings, self.deadline = plan, modules, settings, deadline
-        self.world = JoinWorld(plan)
+        self.world = JoinRoutingGrid(plan)
         for placed in plan.placed:
             self.world.add_part(placed)
         self.chance = random.Random(seed)
         self.finder = PathFinder(self.world, self.chance, settings)
         # A method of this object would keep the world in memory when it is no longer used.
-        self.finder.check_time = partial(require_before_deadline, deadline)
+        self.finder.require_time_left = partial(require_before_deadline, deadline)
         around = [Box(x - COIL_TO_PART_CELLS, y - COIL_TO_PART_CELLS, far - x + 2 * COIL_TO_PART_CELLS,
                       low - y + 2 * COIL_TO_PART_CELLS)
                   for x, y, far, low in self.world.boxes]
@@ -151,7 +154,7 @@ class JoinWiring:
     def run(self, progress: Callable[[int, int], None], can_loosen: Collection[int] = ()) -> list[Path]:
         """Returns the paths of all balls; raises NoRouteError.
 
-        Of balls between two parts that can get more time, all are tried before the search ends with a TightError.
+        Of balls between two parts that can get more time, all are tried before the search ends with a TooFewStepsError.
         """
         jobs, tight, taken_back = self.plan.jobs, list[int](), set[int]()
         for index in range(len(jobs)):
@@ -163,24 +166,24 @@ class JoinWiring:
             index = queue.pop(0)
             if tight and not jobs[index].is_between:
                 break
-            if self.lead(index) or self.lead_before_others(index):
+            if self.lead_ball(index) or self.lead_before_others(index):
                 progress(len(self.paths), len(jobs))
                 continue
             if index in can_loosen and index not in taken_back:
                 tight.append(index)
                 continue
-            crossing = self.balls_across(index)
+            crossing = self.balls_crossing_way_of(index)
             left -= 1 + len(crossing)
             if left <= 0 or not crossing:
                 raise NoRouteError(self.failure_words(index), FailureKind.END)
             for other in crossing:
-                self.take_back(other)
+                self.take_path_back(other)
             taken_back.update(crossing)
             # The balls between two parts have few ways to go, so they are led again before the others.
             between = [other for other in crossing if jobs[other].is_between]
             queue = [index, *between, *queue, *(other for other in crossing if other not in between)]
         if tight:
-            raise TightError(self.failure_words(tight[0]), tight)
+            raise TooFewStepsError(self.failure_words(tight[0]), tight)
         return [self.paths[index] for index in range(len(jobs))]
 
     def failure_words(self, index: int) -> str:
@@ -195,9 +198,9 @@ class JoinWiring:
         job = self.plan.jobs[index]
         assert job.start is not None and job.goal is not None
         ends = (job.start, job.goal) if is_start else (job.goal, job.start)
-        search = OpenSearch(self.finder, self.ground, *ends, not is_start, self.modules.room_test(job.wire),
-                            GOAL_STEP_COSTS[0])
-        return next(search.ways(), None) is None
+        search = OpenGroundSearch(self.finder, self.ground, *ends, not is_start, self.modules.make_room_test(job.wire),
+                                  GOAL_STEP_COSTS[0])
+        return next(search.ways_to_free_squares(), None) is None
 
     def closed_ends(self, skipped: Collection[tuple[int, int]] = ()) -> list[tuple[int, Ball, int]]:
         """Returns the open ends that no ball can leave even if no other ball is led: the number of the job, the ball,
@@ -226,13 +229,13 @@ class JoinWiring:
         """Keeps the next steps at the open ends of a ball that waits free."""
         job, own = self.plan.jobs[index], list[Footprint]()
         for ball, sign in ((job.start, 1), (job.goal, -1)):
-            stub = self.stub_item(ball, sign) if ball else None
+            stub = self.stub_footprint(ball, sign) if ball else None
             if stub is not None:
                 self.world.add(stub)
                 own.append(stub)
         self.stubs[index] = own
 
-    def stub_item(self, ball: Ball, sign: int) -> Footprint | None:
+    def stub_footprint(self, ball: Ball, sign: int) -> Footprint | None:
         """Returns what a way with one bounce takes behind a ball, or before it if `sign` is -1.
 
         If there is none it is a way of a few straight steps, or None.
@@ -241,26 +244,26 @@ class JoinWiring:
         if way is not None:
             return way
         for steps in STUB_STEPS:
-            far = ball.flown(sign * steps)
+            far = ball.after_flight(sign * steps)
             if self.world.is_inside(far.x, far.y):
-                item = path_item(ball if sign > 0 else far, [Leg(steps, None)])
+                item = path_footprint(ball if sign > 0 else far, [Leg(steps, None)])
                 if item is not None and self.world.can_add(item):
                     return item
         return None
 
-    def lead(self, index: int) -> bool:
+    def lead_ball(self, index: int) -> bool:
         """Leads a ball; returns whether a way was found. Else it waits again."""
         for stub in self.stubs.pop(index):
             self.world.remove(stub)
         job = self.plan.jobs[index]
         for tried in range(PATH_TRIES):
             path = self.find_path(job, tried)
-            numbers = self.modules.modules_hearing(path) if path else set[int]()
+            numbers = self.modules.module_numbers_near_path(path) if path else set[int]()
             if path is not None and self.modules.has_room_for(job.wire, numbers):
-                self.world.add(world_item(path))
+                self.world.add(occupied_footprint(path))
                 if isinstance(path, CoiledPath):
-                    self.ground.take_box_and_street(path.box)
-                self.modules.count_wire(job.wire, numbers, 1)
+                    self.ground.exclude_box_and_street(path.box)
+                self.modules.change_wire_count(job.wire, numbers, 1)
                 self.paths[index] = path
                 return True
         self.reserve_ends(index)
@@ -273,7 +276,7 @@ class JoinWiring:
         for other in near:
             for stub in self.stubs[other]:
                 self.world.remove(stub)
-        done = self.lead(index)
+        done = self.lead_ball(index)
         for other in near:
             self.reserve_ends(other)
         return done
@@ -294,10 +297,10 @@ class JoinWiring:
             return coiled
         if job.goal is None:
             assert job.start is not None
-            return self.finder.lead_on_from(job.wire, job.start, job.end)
+            return self.finder.path_to_anywhere(job.wire, job.start, job.end)
         if job.start is None:
             return self.finder.path_from_anywhere(job.wire, job.goal)
-        is_deep = max(self.world.depth(ball.x, ball.y) for ball in (job.start, job.goal)) > SHALLOW_CELLS
+        is_deep = max(self.world.depth_in_part(ball.x, ball.y) for ball in (job.start, job.goal)) > SHALLOW_DEPTH_CELLS
         path = self.find_path_outside(job.wire, job.start, job.goal) if is_deep and not tried else None
         path = path or self.find_connecting_path(job.wire, job.start, job.goal)
         # With little time to spare such searches took 5 to 17 seconds, and found nothing: more time is cheaper.
@@ -310,7 +313,7 @@ class JoinWiring:
         if ball is None:
             assert job.goal is not None
             ball, end = job.goal, 0
-        has_room = self.modules.room_test(job.wire)
+        has_room = self.modules.make_room_test(job.wire)
         search = CoilSearch(self.finder, self.ground, ball, end, job.start is None, has_room)
         for coil, legs in search.coils_with_legs():
             if job.start is None:
@@ -318,7 +321,7 @@ class JoinWiring:
             start = job.start or self.finder.start_of_legs(ball, legs)
             path = self.finder.path_of_legs(job.wire, start, follow_legs(start, legs)[0], legs)
             if path is not None:
-                sealed = sealed_item(path.item, coil.box)
+                sealed = sealed_footprint(path.item, coil.box)
                 return SealedPath(job.wire, start, path.end, path.legs, path.item, coil.box, sealed)
         return None
 
@@ -336,37 +339,38 @@ class JoinWiring:
 
     def find_path_outside(self, wire: str, start: Ball, goal: Ball) -> Path | None:
         """Returns a path between two parts whose ends are led to open ground by a search, and joined there."""
-        has_room = self.modules.room_test(wire)
-        for cells, behind in self.ways_from_open(start, goal, has_room):
+        has_room = self.modules.make_room_test(wire)
+        for cells, behind in self.ways_from_open_ground(start, goal, has_room):
             back, last = Trail(self.world, goal, is_backward=True), self.finder.start_of_legs(goal, behind)
             turns = [leg.turn for leg in reversed(behind[:-1])]
             is_free = all(back.push_leg(leg.steps, turn) for leg, turn in zip(reversed(behind), [*turns, None]))
-            legs = self.legs_to_open(start, last, has_room, cells) if is_free else None
+            legs = self.legs_to_open_ground(start, last, has_room, cells) if is_free else None
             back.clear_legs()
             path = self.finder.path_of_legs(wire, start, goal, linked_legs(legs, behind)) if legs else None
-            if path is not None and self.modules.has_room_for(wire, self.modules.modules_hearing(path)):
+            if path is not None and self.modules.has_room_for(wire, self.modules.module_numbers_near_path(path)):
                 return path
         return None
 
-    def ways_from_open(self, start: Ball, goal: Ball,
-                       has_room: Callable[[Footprint], bool]) -> Iterator[tuple[float, list[Leg]]]:
+    def ways_from_open_ground(self, start: Ball, goal: Ball,
+                              has_room: Callable[[Footprint], bool]) -> Iterator[tuple[float, list[Leg]]]:
         """Yields legs from open ground to a ball in a part: the first ones by each cost of a step, then the second.
 
         If the first one with a cost does not lead on to the start, the others with this cost seldom do.
         """
         ways = dict[float, Iterator[list[Leg]]]()
-        for cells in OPEN_WAYS * GOAL_STEP_COSTS:
+        for cells in OPEN_GROUND_WAYS * GOAL_STEP_COSTS:
             if cells not in ways:
-                ways[cells] = OpenSearch(self.finder, self.ground, goal, start, True, has_room, cells).ways()
+                ways[cells] = OpenGroundSearch(self.finder, self.ground, goal, start, True, has_room,
+                                               cells).ways_to_free_squares()
             behind = next(ways[cells], None)
             if behind is not None:
                 yield cells, behind
 
-    def legs_to_open(self, start: Ball, last: Ball, has_room: Callable[[Footprint], bool],
-                     cells: float) -> list[Leg] | None:
+    def legs_to_open_ground(self, start: Ball, last: Ball, has_room: Callable[[Footprint], bool],
+                            cells: float) -> list[Leg] | None:
         """Returns legs from a ball in a part to a ball on open ground, or None."""
-        search = OpenSearch(self.finder, self.ground, start, last, False, has_room, cells)
-        for ahead in islice(search.ways(), OPEN_WAYS):
+        search = OpenGroundSearch(self.finder, self.ground, start, last, False, has_room, cells)
+        for ahead in islice(search.ways_to_free_squares(), OPEN_GROUND_WAYS):
             on = Trail(self.world, start)
             legs = self.legs_outside(on.ball, last) if all(on.push_leg(*leg) for leg in ahead) else None
             on.clear_legs()
@@ -376,7 +380,7 @@ class JoinWiring:
 
     def legs_outside(self, start: Ball, last: Ball) -> list[Leg] | None:
         """Returns legs between two balls on open ground, or None."""
-        for _ in range(OPEN_TRIES):
+        for _ in range(OPEN_GROUND_TRIES):
             stop, on = last.time - self.chance.randint(*JOIN_STEPS_RANGE), Trail(self.world, start)
             self.finder.known_departures.clear()
             legs = [Leg(0, None)]
@@ -391,7 +395,7 @@ class JoinWiring:
     def wander_and_join(self, back: Trail, on: Trail, start: Ball, goal: Ball) -> list[Leg] | None:
         """Returns legs from a start to a goal by two trails, or None."""
         finder, chance = self.finder, self.chance
-        deep = max(0, self.world.depth(goal.x, goal.y) - SHALLOW_CELLS)
+        deep = max(0, self.world.depth_in_part(goal.x, goal.y) - SHALLOW_DEPTH_CELLS)
         before = goal.time - chance.randint(STEPS_BACK_RANGE[0] + deep, STEPS_BACK_RANGE[1] + 2 * deep)
         if before <= start.time or not finder.wander(back, -before):
             return None
@@ -403,16 +407,16 @@ class JoinWiring:
         middle = finder.find_direct_legs(on.ball, last, self.settings.path_tries)
         return linked_legs(linked_legs(on.legs(), middle), behind) if middle else None
 
-    def take_back(self, index: int) -> None:
+    def take_path_back(self, index: int) -> None:
         """Takes the path of a ball back, which waits again."""
         path = self.paths.pop(index)
-        self.world.remove(world_item(path))
+        self.world.remove(occupied_footprint(path))
         if isinstance(path, CoiledPath):
             self.ground.set_coils(own.box for own in self.paths.values() if isinstance(own, CoiledPath))
-        self.modules.count_wire(path.wire, self.modules.modules_hearing(path), -1)
+        self.modules.change_wire_count(path.wire, self.modules.module_numbers_near_path(path), -1)
         self.reserve_ends(index)
 
-    def balls_across(self, index: int) -> list[int]:
+    def balls_crossing_way_of(self, index: int) -> list[int]:
         """Returns the balls whose paths cross or touch the straight way of a ball that waits."""
         job, touched = self.plan.jobs[index], set[int]()
         for ball, sign in ((job.start, 1), (job.goal, -1)):
@@ -431,8 +435,8 @@ class JoinWiring:
     def straight_way_cells(self, ball: Ball, sign: int) -> set[int]:
         """Returns the cells of the straight way behind a ball, or before it, up to the first mirror and a little on."""
         room = 6 + self.world.free_steps(ball if sign > 0 else ball.time_reversed(), STRAIGHT_WAY_STEPS)
-        way = path_item(ball if sign > 0 else ball.flown(-room), [Leg(room, None)])
-        return way.touched if way else set()
+        way = path_footprint(ball if sign > 0 else ball.after_flight(-room), [Leg(room, None)])
+        return way.touched_cells if way else set()
 
 
 def ball_words(job: BallJob) -> str:

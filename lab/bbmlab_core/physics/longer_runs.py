@@ -7,7 +7,7 @@ These are runs of the lab under all inputs at once, and nothing here is proved.
 
 from ..texts.circuits import Circuit, evaluate_all
 from ..texts.layouts import Cell, Layout
-from .simulation import LiveCells, Table, cell_of, end_tables, key_of, start_tables
+from .simulation import LiveCells, TruthTable, cell_of, key_of, required_end_tables, start_tables
 
 
 def flown_cell(cell: Cell, time: int, steps: int) -> Cell:
@@ -16,7 +16,7 @@ def flown_cell(cell: Cell, time: int, steps: int) -> Cell:
     return x + (-steps if (x + time) % 2 else steps), y + (-steps if (y + time) % 2 else steps)
 
 
-def undisturbed_steps(mirrors: set[Cell], live: dict[Cell, Table], time: int, full: Table, sign: int,
+def undisturbed_steps(mirrors: set[Cell], live: dict[Cell, TruthTable], time: int, full: TruthTable, sign: int,
                       tried: int) -> int | None:
     """Returns for how many steps from a time each live cell flies straight on and each mirror stays, or None for all
     that are tried.
@@ -44,7 +44,7 @@ def undisturbed_steps(mirrors: set[Cell], live: dict[Cell, Table], time: int, fu
     return None
 
 
-def spare_run_steps(circuit: Circuit, layout: Layout) -> tuple[int | None, int | None]:
+def free_steps_before_and_after(circuit: Circuit, layout: Layout) -> tuple[int | None, int | None]:
     """Returns by how many steps all balls can start earlier, and for how many steps they fly on after the last time;
     None is any number.
 
@@ -59,7 +59,7 @@ def spare_run_steps(circuit: Circuit, layout: Layout) -> tuple[int | None, int |
     while field.time < layout.steps:
         field.step()
     end = {cell_of(key): table for key, table in field.live.items()}
-    wanted = end_tables(layout, values.tables, values.full)
+    wanted = required_end_tables(layout, values.tables, values.full)
     if any(wanted.get(cell, 0) not in (None, table) for cell, table in end.items()):
         raise ValueError("the layout does not end as it asks")
     return before, undisturbed_steps(mirrors, end, layout.steps, values.full, 1, tried)

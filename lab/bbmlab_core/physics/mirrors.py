@@ -4,20 +4,20 @@ would.
 
 from dataclasses import dataclass
 
-from ..texts.layouts import Cell, Layout, Part
+from ..texts.layouts import Cell, Layout, LayoutPart
 
 
 @dataclass(frozen=True)
-class FallingMirror:
+class UnstableMirror:
     """A mirror that does not stay by itself: the first step, 1 or 2, that moves one of its cells, and a cell that it
     moves."""
 
-    mirror: Part
+    mirror: LayoutPart
     step: int
     cell: Cell
 
 
-def moving_cell(part: Part, is_odd: int) -> Cell | None:
+def unstable_cell_if_alone(part: LayoutPart, is_odd: int) -> Cell | None:
     """Returns a cell of a rectangle that a step moves, if nothing else is live; `is_odd` is the parity of the step's
     time.
 
@@ -35,12 +35,12 @@ def moving_cell(part: Part, is_odd: int) -> Cell | None:
     return None
 
 
-def is_stable(part: Part) -> bool:
+def is_stable(part: LayoutPart) -> bool:
     """Whether a mirror by itself stays as it is under both partitions."""
-    return moving_cell(part, 0) is None and moving_cell(part, 1) is None
+    return unstable_cell_if_alone(part, 0) is None and unstable_cell_if_alone(part, 1) is None
 
 
-def falling_mirrors(layout: Layout) -> list[FallingMirror]:
+def unstable_mirrors(layout: Layout) -> list[UnstableMirror]:
     """Returns the mirrors that do not stay, in the order of their lines.
 
     Mirrors that touch others are looked at with them.
@@ -50,12 +50,12 @@ def falling_mirrors(layout: Layout) -> list[FallingMirror]:
         for step in (1, 2):
             cell = None if is_stable(part) else unstable_cell(part, step - 1, cells)
             if cell is not None:
-                found.append(FallingMirror(part, step, cell))
+                found.append(UnstableMirror(part, step, cell))
                 break
     return found
 
 
-def unstable_cell(part: Part, is_odd: int, live: set[Cell]) -> Cell | None:
+def unstable_cell(part: LayoutPart, is_odd: int, live: set[Cell]) -> Cell | None:
     """Returns a cell of a mirror whose block has one live cell alone, or two on a diagonal, with all mirrors of the
     layout."""
     border = {(x, y) for x in (part.x, part.x + part.width - 1) for y in (part.y, part.y + part.height - 1)}
@@ -67,7 +67,7 @@ def unstable_cell(part: Part, is_odd: int, live: set[Cell]) -> Cell | None:
     return None
 
 
-def stable_mirrors_near(part: Part, reach: int = 1) -> list[Part]:
+def stable_mirrors_near(part: LayoutPart, reach: int = 1) -> list[LayoutPart]:
     """Returns mirrors that stay, next to one that does not: moved by at most `reach` cells, or one cell larger or
     smaller; nearest first."""
     found = []
@@ -75,7 +75,8 @@ def stable_mirrors_near(part: Part, reach: int = 1) -> list[Part]:
         for dh in (0, 1, -1):
             for dy in range(-reach, reach + 1):
                 for dx in range(-reach, reach + 1):
-                    other = Part("mirror", None, part.x + dx, part.y + dy, part.width + dw, part.height + dh, part.line)
+                    other = LayoutPart("mirror", None, part.x + dx, part.y + dy,
+                                       part.width + dw, part.height + dh, part.line)
                     if min(other.x, other.y) >= 0 and min(other.width, other.height) >= 1 and is_stable(other):
                         found.append((abs(dw) + abs(dh), abs(dx) + abs(dy), other))
     return [other for _, _, other in sorted(found, key=lambda row: row[:2])]

@@ -11,7 +11,7 @@ from ..texts.documents import Document
 from ..texts.layouts import Layout
 from ..texts.reports import ReportLine, ReportOrRefusal, parse_finding
 from ..texts.skimming import certificate_digest
-from .simulation import ModuleRun, local_values, lowest_bit
+from .simulation import ModuleRun, least_assignment, local_wire_tables
 
 
 def module_fault_lines(circuit: Circuit, layout: Layout, certificate: Certificate) -> Iterator[str]:
@@ -20,7 +20,7 @@ def module_fault_lines(circuit: Circuit, layout: Layout, certificate: Certificat
     for module in certificate.modules:
         fault = ModuleRun(circuit, layout, certificate, module).run_to_fault()
         if fault:
-            yield f"local {module.number} {fault.report_words()}"
+            yield f"local {module.number} {fault.text_in_report()}"
         yield from keep_fault_lines(circuit, module)
         if certificate.version == 1:
             yield from border_fault_lines(layout, certificate, module)
@@ -28,12 +28,12 @@ def module_fault_lines(circuit: Circuit, layout: Layout, certificate: Certificat
 
 def keep_fault_lines(circuit: Circuit, module: Module) -> Iterator[str]:
     """Yields the least keep fault of a module."""
-    values = local_values(circuit, module)
+    values = local_wire_tables(circuit, module)
     before = values.full
     for number in module.uses:
         missing = before & ~values.defined_columns_by_gate[number]
         if number in module.keeps and missing:
-            yield f"keep {module.number} {number} {lowest_bit(missing)}"
+            yield f"keep {module.number} {number} {least_assignment(missing)}"
             return
         before = values.defined_columns_by_gate[number]
 
@@ -73,7 +73,7 @@ def gate_report_lines(circuit: Circuit, certificate: Certificate) -> Iterator[st
             yield f"meet {gate.number} {last[0] if len(set(last)) == 1 else 'differ'}"
 
 
-def own_report(document: Document) -> ReportOrRefusal:
+def lab_report(document: Document) -> ReportOrRefusal:
     """Returns the report of a bundle as the lab finds it by running each module, or its own refusal."""
     if document.refusal:
         return ReportOrRefusal(refused=(document.refusal.line, document.refusal.code))
@@ -81,5 +81,5 @@ def own_report(document: Document) -> ReportOrRefusal:
     assert circuit and layout and certificate
     lines = [*module_fault_lines(circuit, layout, certificate), *gate_report_lines(circuit, certificate)]
     findings: list[ReportLine] = [parse_finding(line) for line in lines]
-    verdict = "no" if any(finding.is_against for finding in findings) else "yes"
+    verdict = "no" if any(finding.is_reason_for_no for finding in findings) else "yes"
     return ReportOrRefusal(verdict, certificate_digest(document.text), len(certificate.modules), findings)

@@ -13,13 +13,13 @@ from ..texts.certificates import Border, Certificate, Module
 from ..texts.circuits import Circuit, WireTables, evaluate_gates
 from ..texts.layouts import Box, Cell, Layout
 
-Table = int
+TruthTable = int
 # A cell as one number: y + 2 above the lowest 13 bits, x + 2 in them, which is enough for the largest side. So a
 # block's other cells are 1, ROW and DIAGONAL further.
 ROW_STRIDE = 8192
 DIAGONAL_STRIDE = ROW_STRIDE + 1
 # After so many steps without a change of a module, both kinds of steps with what it hears were tried twice.
-QUIET_STEPS = 4
+QUIET_STEPS_BEFORE_SKIP = 4
 
 
 def key_of(cell: Cell) -> int:
@@ -39,7 +39,7 @@ def block_of(key: int, is_odd: int) -> int:
     return key & ~DIAGONAL_STRIDE
 
 
-def keys_of(box: Box) -> list[int]:
+def keys_of_box(box: Box) -> list[int]:
     """Returns the numbers of the cells of a box, row by row."""
     first = key_of((box.x, box.y))
     return [key for row in range(first, first + box.height * ROW_STRIDE, ROW_STRIDE)
@@ -49,7 +49,7 @@ def keys_of(box: Box) -> list[int]:
 class LiveCells:
     """The live cells of a pattern at one time after another."""
 
-    def __init__(self, live: dict[int, Table]) -> None:
+    def __init__(self, live: dict[int, TruthTable]) -> None:
         self.live = {key: table for key, table in live.items() if table}
         self.time = 0
         # The cells that changed in the last step and in the one before; at first any cell may change.
@@ -80,12 +80,12 @@ class LiveCells:
         self.changed_before, self.changed = self.changed, changed
         self.time += 1
 
-    def state(self, assignment: int = 0) -> set[Cell]:
+    def live_cells_under(self, assignment: int = 0) -> set[Cell]:
         """Returns the live cells under an assignment."""
         return {cell_of(key) for key, table in self.live.items() if table >> assignment & 1}
 
 
-def start_tables(layout: Layout, tables: dict[str, Table], full: Table) -> dict[int, Table]:
+def start_tables(layout: Layout, tables: dict[str, TruthTable], full: TruthTable) -> dict[int, TruthTable]:
     """Returns the start of a layout, where the wires of `in` cells have these tables."""
     live = {key_of(cell): full for cell in (*layout.mirror_cells(), *layout.balls)}
     live.update((key_of(port.cell), tables.get(port.name, 0)) for port in layout.ins)
@@ -95,11 +95,11 @@ def start_tables(layout: Layout, tables: dict[str, Table], full: Table) -> dict[
 class WholeRun:
     """The run of a whole layout on the infinite plane, up to the first step that leaves the rectangle."""
 
-    def __init__(self, layout: Layout, tables: dict[str, Table], full: Table) -> None:
+    def __init__(self, layout: Layout, tables: dict[str, TruthTable], full: TruthTable) -> None:
         self.layout, self.full = layout, full
         self.field = LiveCells(start_tables(layout, tables, full))
         # The first step that leaves the rectangle, under which assignments, and a cell outside.
-        self.left: tuple[int, Table, Cell] | None = None
+        self.left: tuple[int, TruthTable, Cell] | None = None
 
     @property
     def time(self) -> int:
@@ -145,7 +145,7 @@ class Fault:
         """The kind as the report writes it."""
         return FAULT_KINDS[self.rank]
 
-    def report_words(self) -> str:
+    def text_in_report(self) -> str:
         """Writes the fault as the report does, without the module's number."""
         return f"{self.kind} {self.time} {self.x} {self.y} {self.assignment}"
 
@@ -153,7 +153,7 @@ class Fault:
 FAULT_KINDS = ("edge", "stop", "end")
 
 
-def lowest_bit(table: Table) -> int:
+def least_assignment(table: TruthTable) -> int:
     """Returns the least assignment of a table that is not empty."""
     return (table & -table).bit_length() - 1
 
@@ -162,10 +162,10 @@ def lowest_bit(table: Table) -> int:
 class BorderTables:
     """What is said of cells at odd times: tables for all times, and tables by time."""
 
-    at_all_times: dict[int, Table] = field(default_factory=dict)
-    timed: dict[int, dict[int, Table]] = field(default_factory=dict)
+    at_all_times: dict[int, TruthTable] = field(default_factory=dict)
+    timed: dict[int, dict[int, TruthTable]] = field(default_factory=dict)
 
-    def tables_at(self, time: int) -> dict[int, Table]:
+    def tables_at(self, time: int) -> dict[int, TruthTable]:
         """Returns the tables of the cells that are named at an odd time."""
         timed = self.timed.get(time)
         return {**self.at_all_times, **timed} if timed else self.at_all_times
@@ -176,14 +176,14 @@ class ModuleRun:
 
     def __init__(self, circuit: Circuit, layout: Layout, certificate: Certificate, module: Module) -> None:
         self.layout, self.module, self.certificate = layout.clipped(module.box), module, certificate
-        self.values = local_values(circuit, module)
+        self.values = local_wire_tables(circuit, module)
         # The assignments that count: those under which each used gate has a row.
         self.full = self.values.full
         for table in self.values.defined_columns_by_gate.values():
             self.full &= table
         self.tables = {name: table & self.full for name, table in self.values.tables.items()} | {"1": self.full}
         self.field = LiveCells(start_tables(self.layout, self.tables, self.full))
-        self.inside = set(keys_of(module.box))
+        self.inside = set(keys_of_box(module.box))
         self.edges = self.tables_of_lines(module.edges)
         self.halos = self.tables_of_lines(certificate.heard_lines(module))
         self.ring = {key_of(cell) for cell in module.box.ring()}
@@ -192,7 +192,7 @@ class ModuleRun:
             self.stops.setdefault(stop.time, []).append((stop.cell, stop.name))
         self.heard: list[int] = []
 
-    def restrict_assignments(self, assignments: Table) -> None:
+    def restrict_assignments(self, assignments: TruthTable) -> None:
         """Leaves only some assignments. It is called before the first step."""
         self.full &= assignments
         self.tables = {name: table & self.full for name, table in self.tables.items()}
@@ -231,7 +231,7 @@ class ModuleRun:
         while self.time < time:
             self.step()
 
-    def faults_now(self) -> Iterator[tuple[int, Cell, Table]]:
+    def faults_now(self) -> Iterator[tuple[int, Cell, TruthTable]]:
         """Yields the faults at the present time: the kind's rank, the cell, and under which assignments."""
         live, last = self.field.live, self.time == self.layout.steps
         if self.time % 2 and not last:
@@ -247,10 +247,11 @@ class ModuleRun:
         if last:
             yield from self.end_faults()
 
-    def end_faults(self) -> Iterator[tuple[int, Cell, Table]]:
+    def end_faults(self) -> Iterator[tuple[int, Cell, TruthTable]]:
         """Yields the faults of the last time against the layout."""
         live = self.field.live
-        wanted = {key_of(cell): table for cell, table in end_tables(self.layout, self.tables, self.full).items()}
+        wanted = {key_of(cell): table
+                  for cell, table in required_end_tables(self.layout, self.tables, self.full).items()}
         for key in sorted(wanted.keys() | live.keys() & self.inside):
             demand = wanted.get(key, 0)
             table = 0 if demand is None else live.get(key, 0) ^ demand
@@ -261,7 +262,7 @@ class ModuleRun:
         """Makes steps up to the first time with a fault, and returns the least one."""
         events, idle = self.event_times(), 0
         while True:
-            found = [Fault(self.time, rank, cell[1], cell[0], lowest_bit(table)) for rank, cell,
+            found = [Fault(self.time, rank, cell[1], cell[0], least_assignment(table)) for rank, cell,
                      table in self.faults_now()]
             if found:
                 return min(found)
@@ -269,7 +270,7 @@ class ModuleRun:
                 return None
             self.step()
             idle = 0 if self.field.changed else idle + 1
-            if idle >= QUIET_STEPS:
+            if idle >= QUIET_STEPS_BEFORE_SKIP:
                 # As long as the module hears and says the same, nothing changes, and no time has another fault than the
                 # last two.
                 self.field.time = events[bisect_left(events, self.time)]
@@ -282,17 +283,18 @@ class ModuleRun:
         return sorted(times | self.stops.keys() | {self.layout.steps})
 
 
-def local_values(circuit: Circuit, module: Module) -> WireTables:
+def local_wire_tables(circuit: Circuit, module: Module) -> WireTables:
     """Returns the tables of a module's local wires over all assignments of its cuts."""
     return evaluate_gates(circuit, module.cuts, module.uses)
 
 
-def end_tables(layout: Layout, tables: dict[str, Table], full: Table) -> dict[Cell, Table | None]:
+def required_end_tables(layout: Layout, tables: dict[str, TruthTable],
+                        full: TruthTable) -> dict[Cell, TruthTable | None]:
     """Returns what the layout asks of cells at the end: a table, or None where anything is good.
 
     Other cells are to be dead.
     """
-    wanted: dict[Cell, Table | None] = {cell: full for cell in layout.mirror_cells()}
+    wanted: dict[Cell, TruthTable | None] = {cell: full for cell in layout.mirror_cells()}
     wanted.update((port.cell, tables.get(port.name, 0)) for port in layout.outs)
     wanted.update((cell, None) for cell in layout.wastes)
     return wanted

@@ -11,7 +11,7 @@ from ..host.terminal import LabError
 from ..texts.circuits import Circuit
 from ..texts.documents import Document, read_document
 from ..texts.layouts import Cell, Layout, row_order_key
-from .longer_runs import spare_run_steps
+from .longer_runs import free_steps_before_and_after
 
 PACKAGE_FOLDER = Path(__file__).resolve().parent.parent
 # The cells of a clone or of `make install`, else those of a Python package.
@@ -57,7 +57,7 @@ class CellPort:
     dy: int
     time: int
 
-    def line(self) -> str:
+    def listing_line(self) -> str:
         """Returns the line of the port."""
         x, y = self.lead
         way = f"{'right' if self.dx > 0 else 'left'} and {'down' if self.dy > 0 else 'up'}"
@@ -86,12 +86,12 @@ class StandardCell:
                  f"  layout of {layout.width} by {layout.height} cells, {layout.steps} steps, {mirrors}",
                  f"  gates: {gates}; constants: {self.constants}; garbage: {self.garbage}",
                  f"  {longer_runs_text(circuit, layout)}"]
-        return "\n".join([*lines, *(port.line() for port in self.ports)])
+        return "\n".join([*lines, *(port.listing_line() for port in self.ports)])
 
 
 def longer_runs_text(circuit: Circuit, layout: Layout) -> str:
     """Returns how much earlier the balls can start, and for how long they fly on, in words."""
-    before, after = spare_run_steps(circuit, layout)
+    before, after = free_steps_before_and_after(circuit, layout)
     start = ("can start any number of steps" if before is None else f"can start at most {steps_word(before)}" if before
              else "cannot start")
     end = ("fly on" if after is None else f"fly on for {steps_word(after)}" if after
@@ -116,7 +116,7 @@ def layout_and_circuit(document: Document) -> tuple[Layout, Circuit]:
     return document.layout, document.circuit
 
 
-def port_of(role: str, name: str, time: int, cells: list[Cell]) -> CellPort:
+def port_from_ball(role: str, name: str, time: int, cells: list[Cell]) -> CellPort:
     """Returns the port whose ball has two cells at a time: the lead is the one ahead in the ball's direction."""
     x, y = cells[0]
     dx, dy = (-1 if (value + time) % 2 else 1 for value in (x, y))
@@ -124,7 +124,7 @@ def port_of(role: str, name: str, time: int, cells: list[Cell]) -> CellPort:
     return CellPort(role, name, lead, dx, dy, time)
 
 
-def ports_of(document: Document) -> list[CellPort]:
+def ports_from_stops(document: Document) -> list[CellPort]:
     """Returns the ports of a bundle: each wire with stops, at its last stop if it is an input, else at its first."""
     _, circuit = layout_and_circuit(document)
     stops: dict[str, dict[int, list[Cell]]] = {}
@@ -137,7 +137,7 @@ def ports_of(document: Document) -> list[CellPort]:
                 if name in circuit.spills else "inner")
         times = sorted(stops[name])
         for time in times if role == "in" and name in circuit.outputs else [times[-1] if role == "in" else times[0]]:
-            ports.append(port_of(role, name, time, sorted(stops[name][time], key=row_order_key)))
+            ports.append(port_from_ball(role, name, time, sorted(stops[name][time], key=row_order_key)))
             role = "out"
     return ports
 
@@ -149,7 +149,7 @@ def cell_from_text(name: str, text: str) -> StandardCell:
     mirrors = layout.mirror_cells()
     columns, rows = [x for x, _ in mirrors], [y for _, y in mirrors]
     box = (max(columns) - min(columns) + 1, max(rows) - min(rows) + 1) if mirrors else (0, 0)
-    return StandardCell(name, document, ports_of(document), len(layout.balls) // 2, len(circuit.spills), box)
+    return StandardCell(name, document, ports_from_stops(document), len(layout.balls) // 2, len(circuit.spills), box)
 
 
 def cell_path(name: str) -> Path:

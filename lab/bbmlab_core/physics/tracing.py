@@ -9,7 +9,7 @@ from ..texts.cell_pictures import text_picture
 from ..texts.documents import Document
 from ..texts.layouts import Cell, Layout, row_order_key
 from ..texts.reports import RUN_ANSWER_PATTERN, ReportError
-from .simulation import ModuleRun, Table, cell_of, key_of, layout_run
+from .simulation import ModuleRun, TruthTable, cell_of, key_of, layout_run
 
 
 @dataclass(frozen=True)
@@ -40,20 +40,20 @@ class Trace:
     leaving_step: int | None = None
     last_state: set[Cell] | None = None
 
-    def live(self, moment: DifferenceFromMirrors) -> set[Cell]:
+    def live_cells_of(self, moment: DifferenceFromMirrors) -> set[Cell]:
         """Returns the live cells of a state."""
         return (self.mirrors - moment.dead_mirror_cells) | moment.live_other_cells
 
     @property
     def states(self) -> list[set[Cell]]:
         """The live cells at each time."""
-        return [self.live(moment) for moment in self.moments]
+        return [self.live_cells_of(moment) for moment in self.moments]
 
 
 class MirrorWatch:
     """Follows which mirror cells are dead and which other cells are live, by the changes of each step."""
 
-    def __init__(self, live: dict[int, Table], mirrors: set[Cell]) -> None:
+    def __init__(self, live: dict[int, TruthTable], mirrors: set[Cell]) -> None:
         self.live, self.mirrors = live, {key_of(cell) for cell in mirrors}
         self.balls = live.keys() - self.mirrors
         self.gone = self.mirrors - live.keys()
@@ -107,7 +107,7 @@ def trace_layout(layout: Layout, on: list[str], first: int, last: int, is_whole:
         if first <= time <= last:
             trace.moments.append(watch.difference_from_mirrors())
         if time == layout.steps:
-            trace.last_state = run.field.state()
+            trace.last_state = run.field.live_cells_under()
         elif (is_whole or time < last) and not run.step():
             trace.leaving_step = run.time
             break
@@ -120,7 +120,7 @@ def state_at(layout: Layout, on: list[str], time: int) -> set[Cell]:
     if not trace.moments:
         raise LabError(f"there is no time {time}: the run ends at "
                        f"{layout.steps if trace.leaving_step is None else trace.leaving_step - 1}", 2)
-    return trace.live(trace.moments[0])
+    return trace.live_cells_of(trace.moments[0])
 
 
 def trace_module(document: Document, number: int, assignment: int, first: int, last: int) -> Trace:
@@ -140,7 +140,7 @@ def trace_module(document: Document, number: int, assignment: int, first: int, l
     trace = Trace(f"module {number} by itself with {values}", (box.x, box.y, box.width, box.height), first, mirrors)
     for time in range(min(last, layout.steps) + 1):
         if time >= first:
-            state = run.field.state(assignment)
+            state = run.field.live_cells_under(assignment)
             said = run.halos.tables_at(time) if time % 2 and time < layout.steps else {}
             heard = {cell_of(key) for key, table in said.items() if table >> assignment & 1}
             trace.moments.append(DifferenceFromMirrors(state - mirrors, mirrors - state, heard))
@@ -154,16 +154,17 @@ def sorted_cells(cells: set[Cell]) -> list[list[int]]:
     return [list(cell) for cell in sorted(cells, key=row_order_key)]
 
 
-def as_json(trace: Trace, mirrors: set[Cell]) -> str:
+def trace_json_text(trace: Trace, mirrors: set[Cell]) -> str:
     """Writes a trace as one JSON document."""
     document: dict[str, Any] = {"format": "bbmlab trace 1", "title": trace.title, "box": list(trace.box),
                                 "left": trace.leaving_step, "mirrors": sorted_cells(mirrors)}
-    states = (json.dumps({"time": time, "live": sorted_cells(trace.live(moment)), "heard": sorted_cells(moment.heard)})
+    states = (json.dumps({"time": time, "live": sorted_cells(trace.live_cells_of(moment)),
+                          "heard": sorted_cells(moment.heard)})
               for time, moment in enumerate(trace.moments, trace.first))
     return f'{json.dumps(document)[:-1]}, "states": [{", ".join(states)}]}}\n'
 
 
-def as_text(trace: Trace, mirrors: set[Cell], pictures: bool) -> str:
+def trace_text(trace: Trace, mirrors: set[Cell], pictures: bool) -> str:
     """Writes a trace: a line for each time with the live cells that are no mirror's, or pictures."""
     lines = [f"# {trace.title}"]
     for time, moment in enumerate(trace.moments, trace.first):
@@ -172,13 +173,13 @@ def as_text(trace: Trace, mirrors: set[Cell], pictures: bool) -> str:
         missing = f"; dead mirror cells: {' '.join(f'{x},{y}' for x, y in dead)}" if dead else ""
         lines.append(f"{time:>5}: {shown}{missing}")
         if pictures:
-            lines += text_picture(trace.box, trace.live(moment), mirrors, moment.heard) + [""]
+            lines += text_picture(trace.box, trace.live_cells_of(moment), mirrors, moment.heard) + [""]
     if trace.leaving_step is not None:
         lines.append(f"step {trace.leaving_step} makes a cell outside the rectangle live")
     return "\n".join(lines) + "\n"
 
 
-def difference_from_run(trace: Trace, output: str) -> str | None:
+def describe_difference_from_run(trace: Trace, output: str) -> str | None:
     """Returns how the program's `run` differs from the trace, or None where both are the same.
 
     Raises ReportError for no answer of `run`.
@@ -198,7 +199,7 @@ def difference_from_run(trace: Trace, output: str) -> str | None:
     return f"the program's run differs at {sorted(differ)[0]}" if differ else None
 
 
-def run_input(layout_lines: list[str], on: list[str]) -> bytes:
+def bytes_for_run_command(layout_lines: list[str], on: list[str]) -> bytes:
     """Returns the text that the program's `run` reads."""
     return ("\n".join([*layout_lines, "assign", *(f"on {name}" for name in on), "end"]) + "\n").encode("latin-1")
 

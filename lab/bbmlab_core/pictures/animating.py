@@ -45,25 +45,25 @@ def ball_paths(layout: Layout, on: Iterable[str]) -> list[tuple[int, list[Cell]]
     return found
 
 
-def attribute_values(cells: list[Cell], axis: int, before: int, after: int) -> str:
+def coordinate_keyframes(cells: list[Cell], axis: int, before: int, after: int) -> str:
     """Returns the values of an attribute at each step of all runs: outside of its own run a ball is out of sight."""
     own = [str(CELL_PX * cell[axis]) for cell in cells] + [str(CELL_PX * cells[-1][axis])] * REST_STEPS
     return ";".join(["-99"] * before + own + ["-99"] * after)
 
 
-def ball_lines(number: int, cells: list[Cell], before: int, after: int) -> Iterator[str]:
+def ball_svg_lines(number: int, cells: list[Cell], before: int, after: int) -> Iterator[str]:
     """Yields the lines of a ball."""
     colour = COLOURS[number % len(COLOURS)] if number >= 0 else "#555555"
     seconds = STEP_SECONDS * (before + len(cells) + REST_STEPS + after)
     yield f'<rect x="-99" y="-99" width="{CELL_PX}" height="{CELL_PX}" rx="3" fill="{colour}">'
     for axis, name in enumerate("xy"):
-        values = attribute_values(cells, axis, before, after)
+        values = coordinate_keyframes(cells, axis, before, after)
         yield (f'<animate attributeName="{name}" dur="{seconds:.2f}s" repeatCount="indefinite" calcMode="discrete" '
                f'values="{values}"/>')
     yield "</rect>"
 
 
-def caption_lines(text: str, y: int, before: int, own: int, after: int) -> Iterator[str]:
+def caption_svg_lines(text: str, y: int, before: int, own: int, after: int) -> Iterator[str]:
     """Yields the lines of a caption that is seen during its own run."""
     seconds = STEP_SECONDS * (before + own + after)
     values = ";".join(["hidden"] * (before > 0) + ["visible"] + ["hidden"] * (after > 0))
@@ -75,7 +75,7 @@ def caption_lines(text: str, y: int, before: int, own: int, after: int) -> Itera
            f'keyTimes="{times}" values="{values}"/></text>')
 
 
-def animation(layout: Layout, runs: list[list[str]], title: str) -> str:
+def animation_svg(layout: Layout, runs: list[list[str]], title: str) -> str:
     """Returns an SVG that plays runs one after the other, each with these inputs on."""
     own = layout.steps + 1 + REST_STEPS
     width, height = CELL_PX * layout.width, CELL_PX * layout.height
@@ -89,7 +89,7 @@ def animation(layout: Layout, runs: list[list[str]], title: str) -> str:
     for number, on in enumerate(runs):
         before, after = own * number, own * (len(runs) - 1 - number)
         for which, cells in ball_paths(layout, on):
-            lines += ball_lines(which, cells, before, after)
+            lines += ball_svg_lines(which, cells, before, after)
         text = ", ".join(f"{name} = {int(name in on)}" for name in names)
-        lines += caption_lines(text, height + 24, before, own, after)
+        lines += caption_svg_lines(text, height + 24, before, own, after)
     return "\n".join([*lines, "</svg>"]) + "\n"

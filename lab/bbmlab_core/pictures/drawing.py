@@ -4,31 +4,32 @@ from dataclasses import dataclass, field
 from html import escape
 from typing import Sequence
 
-from ..physics.simulation import Table
+from ..physics.simulation import TruthTable
 from ..texts.certificates import Module
 from ..texts.circuits import Circuit, evaluate_all, evaluate_samples, sampled_tables
 from ..texts.documents import Document
 from ..texts.gates import input_tables
-from ..texts.layouts import Box, Cell, Layout, Part
-from .label_places import NameToPlace, Rect, leader_line, place_names
+from ..texts.layouts import Box, Cell, Layout, LayoutPart
+from .label_places import NameToPlace, Rect, choose_name_places, leader_line
 from .picture_parts import OTHER_WIRES_LABEL, chevrons, pieces_within
-from .ways import Piece, directed_ways, joined_pieces, ways_of
+from .ways import Piece, directed_ways, joined_pieces, ways_by_table
 
 CELL_PX = 12
-MARGIN = 30
+MARGIN_PX = 30
 # The middle of the first cell.
-MIDDLE_OFFSET = MARGIN + CELL_PX // 2
-NAME_SIZE = 8
+FIRST_CELL_CENTRE = MARGIN_PX + CELL_PX // 2
+NAME_FONT_SIZE = 8
 # Up to this many inputs all choices are tried, and else so many samples of them.
 MAX_EXHAUSTIVE_INPUTS = 12
 SAMPLE_COUNT = 256
-# Larger layouts get larger letters and wider ways, so that they can be read at the width of a page. Above `LARGE_SIDE`
-# ways stay as wide as they are at that side in a picture of one size: balls of the router keep four cells apart.
-PLAIN_SIDE = 64
-MAX_WIDENING = 2.5
-LARGE_SIDE = 512
-MAX_LEGEND = 40
-MAX_SINGLE_MIRRORS = 2000
+# Larger layouts get larger letters and wider ways, so that they can be read at the width of a page. Above
+# `LARGE_LAYOUT_SIDE` ways stay as wide as they are at that side in a picture of one size: balls of the router keep four
+# cells apart.
+MAX_UNSCALED_SIDE = 64
+MAX_WAY_WIDENING = 2.5
+LARGE_LAYOUT_SIDE = 512
+MAX_LEGEND_WIRES = 40
+MAX_SEPARATE_MIRRORS = 2000
 # More names of ports would cover each other and take minutes to place.
 MAX_PORT_NAMES = 512
 # In a picture of a large layout a ball is at least this part of its side, and the name of a gate is at least this part
@@ -85,7 +86,7 @@ class Drawing:
 
 def cell_centre(cell: Cell) -> tuple[float, float]:
     """Returns the middle of a cell in the picture."""
-    return MARGIN + cell[0] * CELL_PX + CELL_PX / 2, MARGIN + cell[1] * CELL_PX + CELL_PX / 2
+    return MARGIN_PX + cell[0] * CELL_PX + CELL_PX / 2, MARGIN_PX + cell[1] * CELL_PX + CELL_PX / 2
 
 
 def coordinate_text(number: float) -> str:
@@ -95,8 +96,8 @@ def coordinate_text(number: float) -> str:
 
 def rectangle_element(kind: str, x: int, y: int, width: int, height: int) -> str:
     """Returns a rectangle of cells."""
-    return (f'<rect class="{kind}" x="{MARGIN + x * CELL_PX}" y="{MARGIN + y * CELL_PX}" width="{width * CELL_PX}" '
-            f'height="{height * CELL_PX}"/>')
+    return (f'<rect class="{kind}" x="{MARGIN_PX + x * CELL_PX}" y="{MARGIN_PX + y * CELL_PX}" '
+            f'width="{width * CELL_PX}" height="{height * CELL_PX}"/>')
 
 
 def number_spacing(size: int) -> int:
@@ -112,11 +113,11 @@ def multiples(first: int, count: int, step: int) -> range:
 def plane_elements(view: Box) -> list[str]:
     """Returns the background with the lines of even blocks and the numbers of columns and rows."""
     parts = [rectangle_element("plane", view.x, view.y, view.width, view.height)]
-    left, top = MARGIN + view.x * CELL_PX, MARGIN + view.y * CELL_PX
+    left, top = MARGIN_PX + view.x * CELL_PX, MARGIN_PX + view.y * CELL_PX
     if max(view.width, view.height) <= 128:
         right, bottom = left + view.width * CELL_PX, top + view.height * CELL_PX
-        lines = [f"M{MARGIN + x * CELL_PX} {top}V{bottom}" for x in multiples(view.x, view.width + 1, 2)]
-        lines += [f"M{left} {MARGIN + y * CELL_PX}H{right}" for y in multiples(view.y, view.height + 1, 2)]
+        lines = [f"M{MARGIN_PX + x * CELL_PX} {top}V{bottom}" for x in multiples(view.x, view.width + 1, 2)]
+        lines += [f"M{left} {MARGIN_PX + y * CELL_PX}H{right}" for y in multiples(view.y, view.height + 1, 2)]
         parts.append(f'<path class="line" d="{"".join(lines)}"/>')
     for x in multiples(view.x, view.width, number_spacing(view.width)):
         centre = coordinate_text(cell_centre((x, 0))[0])
@@ -153,7 +154,7 @@ def flight_direction(cell: Cell, time: int) -> tuple[int, int]:
 
 def cell_rect(x: int, y: int, width: int = 1, height: int = 1) -> Rect:
     """Returns the place of some cells in the picture."""
-    return Rect(MARGIN + x * CELL_PX, MARGIN + y * CELL_PX, width * CELL_PX, height * CELL_PX)
+    return Rect(MARGIN_PX + x * CELL_PX, MARGIN_PX + y * CELL_PX, width * CELL_PX, height * CELL_PX)
 
 
 def port_name_elements(layout: Layout, view: Box, scale: float) -> list[str]:
@@ -161,7 +162,7 @@ def port_name_elements(layout: Layout, view: Box, scale: float) -> list[str]:
 
     Names of one cell are in one place.
     """
-    size = NAME_SIZE * scale
+    size = NAME_FONT_SIZE * scale
     labels = [(cell_rect(*cell), kind, "→" + names[0] if kind == "in" else names[0] + "→")
               for (cell, kind), names in labelled_cells(layout).items()]
     if len(labels) > MAX_PORT_NAMES:
@@ -174,10 +175,10 @@ def port_name_elements(layout: Layout, view: Box, scale: float) -> list[str]:
     bare = [rect for rect in ports if (rect.x, rect.y) not in named]
     signs = [cell_rect(*part.cell) for part in layout.parts if part.kind in ("waste", "ball")]
     walls = [cell_rect(part.x, part.y, part.width, part.height) for part in layout.of_kind("mirror")]
-    room, lines, parts = MARGIN * scale, [], []
-    bounds = Rect(MARGIN + view.x * CELL_PX - room, MARGIN + view.y * CELL_PX - room, view.width * CELL_PX + 2 * room,
-                  view.height * CELL_PX + 2 * room)
-    for (cell, _, mark), place in zip(labels, place_names(names, signs + walls, bare, bounds)):
+    room, lines, parts = MARGIN_PX * scale, [], []
+    bounds = Rect(MARGIN_PX + view.x * CELL_PX - room, MARGIN_PX + view.y * CELL_PX - room,
+                  view.width * CELL_PX + 2 * room, view.height * CELL_PX + 2 * room)
+    for (cell, _, mark), place in zip(labels, choose_name_places(names, signs + walls, bare, bounds)):
         line = leader_line(place, cell)
         if line:
             (x, y), (u, v) = line
@@ -189,12 +190,12 @@ def port_name_elements(layout: Layout, view: Box, scale: float) -> list[str]:
     return lines + parts
 
 
-def mirror_elements(mirrors: list[Part]) -> list[str]:
+def mirror_elements(mirrors: list[LayoutPart]) -> list[str]:
     """Returns mirrors: each by itself, or one path for very many."""
-    if len(mirrors) <= MAX_SINGLE_MIRRORS:
+    if len(mirrors) <= MAX_SEPARATE_MIRRORS:
         return [rectangle_element("mirror", part.x, part.y, part.width, part.height) for part in mirrors]
-    boxes = (f"M{MARGIN + part.x * CELL_PX} "
-             f"{MARGIN + part.y * CELL_PX}h{part.width * CELL_PX}v{part.height * CELL_PX}h-{part.width * CELL_PX}z"
+    boxes = (f"M{MARGIN_PX + part.x * CELL_PX} "
+             f"{MARGIN_PX + part.y * CELL_PX}h{part.width * CELL_PX}v{part.height * CELL_PX}h-{part.width * CELL_PX}z"
              for part in mirrors)
     return [f'<path class="mirror" d="{"".join(boxes)}"/>']
 
@@ -203,16 +204,16 @@ def layout_elements(layout: Layout) -> list[str]:
     """Returns mirrors, ports and waste cells."""
     parts = mirror_elements(layout.of_kind("mirror"))
     parts += [rectangle_element("out", part.x, part.y, 1, 1) for part in layout.of_kind("out")]
-    parts += [f'<rect class="in" x="{MARGIN + part.x * CELL_PX + 1.5}" y="{MARGIN + part.y * CELL_PX + 1.5}" '
+    parts += [f'<rect class="in" x="{MARGIN_PX + part.x * CELL_PX + 1.5}" y="{MARGIN_PX + part.y * CELL_PX + 1.5}" '
               f'width="{CELL_PX - 3}" height="{CELL_PX - 3}"/>'
               for part in layout.of_kind("in")]
     parts += [waste_element(part) for part in layout.of_kind("waste")]
     return parts
 
 
-def waste_element(part: Part) -> str:
+def waste_element(part: LayoutPart) -> str:
     """Returns a cross in a waste cell."""
-    x, y = MARGIN + part.x * CELL_PX + 2, MARGIN + part.y * CELL_PX + 2
+    x, y = MARGIN_PX + part.x * CELL_PX + 2, MARGIN_PX + part.y * CELL_PX + 2
     side = CELL_PX - 4
     return f'<path class="waste" d="M{x} {y}l{side} {side}m0-{side}l-{side} {side}"/>'
 
@@ -224,8 +225,8 @@ def module_elements(modules: Sequence[Module]) -> list[str]:
         box = module.box
         parts.append(rectangle_element("box" if is_numbered else "box faint", box.x, box.y, box.width, box.height))
         if is_numbered:
-            parts.append(f'<text class="number" x="{MARGIN + box.x * CELL_PX + 3}" '
-                         f'y="{MARGIN + box.y * CELL_PX + 9}">{module.number}</text>')
+            parts.append(f'<text class="number" x="{MARGIN_PX + box.x * CELL_PX + 3}" '
+                         f'y="{MARGIN_PX + box.y * CELL_PX + 9}">{module.number}</text>')
     return parts
 
 
@@ -238,11 +239,11 @@ def gate_elements(gates: list[tuple[Box, list[str]]]) -> list[str]:
 
 def gate_name_elements(gates: list[tuple[Box, list[str]]], scale: float) -> list[str]:
     """Returns the first gate of each box, and how many others there are, where the box has room for these words."""
-    parts, largest = [], NAME_SIZE * scale
+    parts, largest = [], NAME_FONT_SIZE * scale
     for box, names in gates:
         shown = names[0] + (f" +{len(names) - 1}" if len(names) > 1 else "")
         size = min(largest, box.width * CELL_PX / (0.62 * len(shown)), box.height * CELL_PX)
-        x, y = MARGIN + (box.x + box.width / 2) * CELL_PX, MARGIN + (box.y + box.height / 2) * CELL_PX + size / 3
+        x, y = MARGIN_PX + (box.x + box.width / 2) * CELL_PX, MARGIN_PX + (box.y + box.height / 2) * CELL_PX + size / 3
         if size >= LEAST_NAME_SHARE * largest:
             parts.append(f'<text class="gate-name" x="{coordinate_text(x)}" y="{coordinate_text(y)}" '
                          f'style="font-size:{coordinate_text(size)}px">{escape(shown)}</text>')
@@ -290,8 +291,8 @@ def way_elements(drawing: Drawing, wires: list[str], widening: float) -> list[st
         # seen itself.
         thinnest = 1.6 if widening == 1 else 2.6
         width = (5 - (5 - thinnest) * index / max(1, len(order) - 1)) * widening
-        path = "".join([f"M{MIDDLE_OFFSET + CELL_PX * x} {MIDDLE_OFFSET + CELL_PX * y}"
-                        f"L{MIDDLE_OFFSET + CELL_PX * u} {MIDDLE_OFFSET + CELL_PX * v}"
+        path = "".join([f"M{FIRST_CELL_CENTRE + CELL_PX * x} {FIRST_CELL_CENTRE + CELL_PX * y}"
+                        f"L{FIRST_CELL_CENTRE + CELL_PX * u} {FIRST_CELL_CENTRE + CELL_PX * v}"
                         for (x, y), (u, v) in joined_pieces(drawing.ways[wire])])
         lengths = " ".join(coordinate_text(int(part) * widening) for part in dash.split())
         dashes = f' stroke-dasharray="{lengths}"' if dash else ""
@@ -301,25 +302,25 @@ def way_elements(drawing: Drawing, wires: list[str], widening: float) -> list[st
         has_arrows = drawing.has_arrows and wire != OTHER_WIRES_LABEL
         heads = chevrons(drawing.ways[wire], 3 * width / CELL_PX) if has_arrows else []
         if heads:
-            path = "".join("M" +
-                           "L".join(f"{coordinate_text(MARGIN + x * CELL_PX)} {coordinate_text(MARGIN + y * CELL_PX)}"
-                                    for x, y in head) for head in heads)
+            path = "".join("M" + "L".join(f"{coordinate_text(MARGIN_PX + x * CELL_PX)} "
+                                          f"{coordinate_text(MARGIN_PX + y * CELL_PX)}" for x, y in head)
+                           for head in heads)
             parts.append(f'<path class="way w{colour}" style="stroke-width:{coordinate_text(width)}" d="{path}"/>')
     return parts
 
 
-def legend(drawing: Drawing, wires: list[str], y: int, width: float) -> tuple[list[str], int]:
+def legend_elements_and_height(drawing: Drawing, wires: list[str], y: int, width: float) -> tuple[list[str], int]:
     """Returns the names of the wires with their colours, in lines of at most a width, and the height that they take."""
     order = ordered_wires(drawing, wires)
     styles, parts = wire_styles(order), []
-    x, top = float(MARGIN), y
-    for wire in order[:MAX_LEGEND]:
+    x, top = float(MARGIN_PX), y
+    for wire in order[:MAX_LEGEND_WIRES]:
         colour, dash = styles[wire]
         text = label_of(drawing, wire)
         text = text if len(text) <= 30 else text[:28] + ".."
         room = 32 + 4.2 * len(text)
-        if x > MARGIN and x + room > width - MARGIN:
-            x, top = float(MARGIN), top + 12
+        if x > MARGIN_PX and x + room > width - MARGIN_PX:
+            x, top = float(MARGIN_PX), top + 12
         dashes = f' stroke-dasharray="{dash}"' if dash else ""
         parts.append(f'<path class="way w{colour}"{dashes} d="M{coordinate_text(x)} {top}h16"/>'
                      f'<text x="{coordinate_text(x + 20)}" y="{top + 2.5}">{escape(text)}</text>')
@@ -361,20 +362,20 @@ def extra_style(drawing: Drawing, scale: float) -> str:
     return letters
 
 
-def svg(layout: Layout, drawing: Drawing, wires: list[str]) -> str:
+def layout_svg(layout: Layout, drawing: Drawing, wires: list[str]) -> str:
     """Writes the picture.
 
-    Above `PLAIN_SIDE` cells a side, letters and margins grow with the part of the layout that is shown.
+    Above `MAX_UNSCALED_SIDE` cells a side, letters and margins grow with the part of the layout that is shown.
     """
     view, layout = drawing.shown_box(layout), clip_layout_and_drawing(layout, drawing)
     side = max(view.width, view.height)
-    scale = max(1.0, side / PLAIN_SIDE)
-    widening, margin = min(scale, MAX_WIDENING) * max(1.0, side / LARGE_SIDE), MARGIN * (scale - 1)
-    width, bottom = 2 * MARGIN * scale + view.width * CELL_PX, MARGIN * scale + view.height * CELL_PX
-    width = max(width, 2 * MARGIN + 256 if drawing.ways else 0)
-    keys, key_height = legend(drawing, wires, 24, width / scale)
+    scale = max(1.0, side / MAX_UNSCALED_SIDE)
+    widening, margin = min(scale, MAX_WAY_WIDENING) * max(1.0, side / LARGE_LAYOUT_SIDE), MARGIN_PX * (scale - 1)
+    width, bottom = 2 * MARGIN_PX * scale + view.width * CELL_PX, MARGIN_PX * scale + view.height * CELL_PX
+    width = max(width, 2 * MARGIN_PX + 256 if drawing.ways else 0)
+    keys, key_height = legend_elements_and_height(drawing, wires, 24, width / scale)
     height = bottom + (34 + key_height) * scale
-    ball = drawing.least_ball_size or (side * LEAST_BALL_SHARE if side > LARGE_SIDE else 0.0)
+    ball = drawing.least_ball_size or (side * LEAST_BALL_SHARE if side > LARGE_LAYOUT_SIDE else 0.0)
     parts = [*plane_elements(view), *layout_elements(layout), *module_elements(drawing.modules),
              *gate_elements(drawing.gates), *way_elements(drawing, wires, widening),
              *gate_name_elements(drawing.gates, scale), *ball_elements(layout, drawing.live, ball),
@@ -387,7 +388,7 @@ def svg(layout: Layout, drawing: Drawing, wires: list[str]) -> str:
              f"{extra_style(drawing, scale)}")
     count = len(labelled_cells(layout))
     words = escape(drawing.title + (f"; the names of {count} ports are left out" if count > MAX_PORT_NAMES else ""))
-    title = f'<g transform="scale({coordinate_text(scale)})"><text x="{MARGIN}" y="12">{words}</text></g>'
+    title = f'<g transform="scale({coordinate_text(scale)})"><text x="{MARGIN_PX}" y="12">{words}</text></g>'
     below = (f'<g transform="translate(0 {coordinate_text(bottom)}) scale({coordinate_text(scale)})">'
              + "\n".join(keys) + "</g>")
     size = f"{coordinate_text(width)} {coordinate_text(height)}"
@@ -401,7 +402,7 @@ def svg(layout: Layout, drawing: Drawing, wires: list[str]) -> str:
             + f"\n</g>\n{title}\n{below}\n</svg>\n")
 
 
-def wire_tables_and_column(document: Document, on: list[str]) -> tuple[dict[str, Table], Table, int]:
+def wire_tables_and_column(document: Document, on: list[str]) -> tuple[dict[str, TruthTable], TruthTable, int]:
     """Returns the tables of the wires, that of all columns, and the column in which just the names of `on` are true.
 
     The columns are all assignments of the inputs, or samples if there are more inputs than `MAX_EXHAUSTIVE_INPUTS`.
@@ -420,7 +421,7 @@ def wire_tables_and_column(document: Document, on: list[str]) -> tuple[dict[str,
     return dict(zip(inputs, input_tables(len(inputs)))), (1 << (1 << len(inputs))) - 1, chosen
 
 
-def sampled_words(document: Document) -> str:
+def sampling_note(document: Document) -> str:
     """Says that not all choices of the inputs are tried, if that is so."""
     layout, circuit = document.layout, document.circuit
     assert layout is not None
@@ -439,19 +440,19 @@ def ball_ways_and_labels(document: Document, on: list[str] | None, until: int,
     layout = document.layout
     assert layout is not None
     tables, full, chosen = wire_tables_and_column(document, on or [])
-    names: dict[Table, str] = {}
+    names: dict[TruthTable, str] = {}
     equal: dict[str, list[str]] = {}
     for name, table in tables.items():
         equal.setdefault(names.setdefault(table, name), []).append(name)
     names[full] = "1"
     ways: dict[str, list[Piece]] = {}
-    for table, pieces in (directed_ways if is_directed else ways_of)(layout, tables, full, until).items():
+    for table, pieces in (directed_ways if is_directed else ways_by_table)(layout, tables, full, until).items():
         if on is None or table >> chosen & 1:
             ways.setdefault(names.get(table, ""), []).extend(pieces)
     return ways, {name: ", ".join(same) for name, same in equal.items()}
 
 
-def group_ways_by_level(drawing: Drawing, circuit: Circuit, most_wires: int = MAX_LEGEND) -> list[str]:
+def group_ways_by_level(drawing: Drawing, circuit: Circuit, most_wires: int = MAX_LEGEND_WIRES) -> list[str]:
     """Gives the ways of more wires than some to groups of levels, and returns the groups.
 
     A level counts the gates from the inputs to a wire.

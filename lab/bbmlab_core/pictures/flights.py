@@ -19,11 +19,11 @@ FLIGHT_DELTAS = ((1, 1), (-1, -1), (-1, 1), (1, -1))
 # The two other cells of the block that lie at the sides of a ball's move.
 SIDE_OFFSETS = ((1, ROW_STRIDE), (-1, -ROW_STRIDE), (-1, ROW_STRIDE), (1, -ROW_STRIDE))
 # By whether x and y of a ball differ from the parity of the time, the direction in which it flies.
-FLIGHT_DIRECTIONS = ((FALLING, BACK_RISING), (RISING, BACK_FALLING))
+DIRECTION_BY_PARITIES = ((FALLING, BACK_RISING), (RISING, BACK_FALLING))
 ROW_SHIFT = ROW_STRIDE.bit_length() - 1
 COLUMN_MASK = ROW_STRIDE - 1
 # A shorter flight costs more than its steps.
-LEAST_FLIGHT = 3
+MIN_FLIGHT_STEPS = 3
 
 # A ball that flies: when it took off, and its lines with its place on each.
 Flight = tuple[int, tuple[tuple[int, int], ...]]
@@ -39,7 +39,7 @@ def mirror_cell_numbers(layout: Layout) -> set[int]:
     return cells
 
 
-def is_firm(cells: set[int]) -> bool:
+def is_ball_proof(cells: set[int]) -> bool:
     """Returns whether no ball can change cells of mirrors: each has a neighbour in its block, not only the opposite
     cell, in both partitions. The block rule changes no block with two such cells."""
     return all((key ^ 1 in cells or key ^ ROW_STRIDE in cells)
@@ -48,7 +48,7 @@ def is_firm(cells: set[int]) -> bool:
                for key in cells)
 
 
-class Walls:
+class MirrorBlocks:
     """The blocks with cells of mirrors, of both partitions, by the diagonals that cross them."""
 
     def __init__(self, layout: Layout, cells: set[int]) -> None:
@@ -101,7 +101,7 @@ class Flights:
     have the same, since they would be in one cell.
     """
 
-    def __init__(self, walls: Walls) -> None:
+    def __init__(self, walls: MirrorBlocks) -> None:
         self.walls = walls
         self.flying: dict[int, Flight] = {}
         # When balls land at the latest.
@@ -114,7 +114,7 @@ class Flights:
         """Lets a ball fly, at most until a time, and returns its number, or None if it cannot fly."""
         x, y, lines = key & COLUMN_MASK, key >> ROW_SHIFT, self.lines
         steps = self.walls.free_steps(x, y, direction)
-        if steps < LEAST_FLIGHT:
+        if steps < MIN_FLIGHT_STEPS:
             return None
         dx, dy = FLIGHT_DELTAS[direction]
         column, row, end = x - dx * time, y - dy * time, time + steps if time + steps < until else until

@@ -10,14 +10,14 @@ import re
 from ..host.terminal import LabError
 from ..texts.documents import read_document
 from ..texts.layouts import Cell, Layout, row_order_key
-from ..texts.limits import SECOND_LIMITS, limits_for
+from ..texts.limits import SECOND_LIMITS, smallest_fitting_limits
 
-RULE = "BBM-Margolus-emulated"
+GOLLY_RULE_NAME = "BBM-Margolus-emulated"
 STATE_SIGNS = ".ABCD"
-MARGIN = 2
+DEAD_MARGIN_CELLS = 2
 # The most rows and columns of a file that are read, counted with those that are empty: those of the largest layout with
 # its margin.
-MAX_FILE_SIDE = SECOND_LIMITS.max_side + 2 * MARGIN
+MAX_FILE_SIDE = SECOND_LIMITS.max_side + 2 * DEAD_MARGIN_CELLS
 
 
 def row_signs(y: int, columns: range, live: list[int]) -> str:
@@ -31,22 +31,23 @@ def row_signs(y: int, columns: range, live: list[int]) -> str:
     return "".join(row)
 
 
-def packed_row(row: str) -> str:
+def run_length_row(row: str) -> str:
     """Returns a row with runs of signs counted."""
     return re.sub(r"(.)\1+", lambda run: f"{len(run[0])}{run[1]}", row)
 
 
 def golly_text(layout: Layout, live: set[Cell], on: list[str], lines: list[str]) -> str:
     """Returns the RLE file of the start with a dead margin. The layout's lines are kept as comments."""
-    columns, rows = range(-MARGIN, layout.width + MARGIN), range(-MARGIN, layout.height + MARGIN)
+    columns = range(-DEAD_MARGIN_CELLS, layout.width + DEAD_MARGIN_CELLS)
+    rows = range(-DEAD_MARGIN_CELLS, layout.height + DEAD_MARGIN_CELLS)
     live_of: dict[int, list[int]] = {}
     for x, y in live:
         live_of.setdefault(y, []).append(x)
-    body = "$\n".join(packed_row(row_signs(y, columns, live_of.get(y, []))) for y in rows)
+    body = "$\n".join(run_length_row(row_signs(y, columns, live_of.get(y, []))) for y in rows)
     comments = ["#C bbmlab: the start of a layout; states 1 and 3 are the upper left cells of blocks, 3 and 4 are live",
                 f"#C inputs on: {' '.join(on) or 'none'}", *(f"#C layout: {line}" for line in lines)]
-    return "\n".join([f"#CXRLE Pos={-MARGIN},{-MARGIN}", *comments,
-                      f"x = {len(columns)}, y = {len(rows)}, rule = {RULE}", body + "!"]) + "\n"
+    return "\n".join([f"#CXRLE Pos={-DEAD_MARGIN_CELLS},{-DEAD_MARGIN_CELLS}", *comments,
+                      f"x = {len(columns)}, y = {len(rows)}, rule = {GOLLY_RULE_NAME}", body + "!"]) + "\n"
 
 
 def golly_states_and_comments(text: str) -> tuple[dict[Cell, int], list[str]]:
@@ -128,4 +129,5 @@ def layout_text_from_golly(text: str) -> str:
         raise LabError(f"the pattern takes {width} by {height} cells with its margin; {SECOND_LIMITS.max_side} is the "
                        "most")
     balls = [f"ball {x - left} {y - top}" for x, y in sorted(live, key=row_order_key)]
-    return limits_for(max(width, height)).line_text + "\n".join([f"layout {width} {height} 0", *balls, "end"]) + "\n"
+    first = smallest_fitting_limits(max(width, height)).line_text
+    return first + "\n".join([f"layout {width} {height} 0", *balls, "end"]) + "\n"

@@ -8,9 +8,10 @@ from typing import Iterator
 
 # A place that covers a port or another name costs so many times its covered area; other signs cost their area once.
 COVERING_COST = 100.0
-# How many lines of text a name may be away from its cell. From `MIN_LEADER_AWAY` on it gets a line to its cell.
+# How many lines of text a name may be away from its cell. From `MIN_LINES_AWAY_FOR_LEADER` on it gets a line to its
+# cell.
 MAX_LINES_AWAY = 6
-MIN_LEADER_AWAY = 1
+MIN_LINES_AWAY_FOR_LEADER = 1
 # The least side of the squares in which rectangles are filed. Higher names get larger squares: each touches few.
 BUCKET_SIDE = 64.0
 
@@ -71,13 +72,13 @@ class Obstacles:
             self.filed.setdefault(square, []).append(len(self.rects))
         self.rects.append((rect, cost))
 
-    def cost(self, rect: Rect) -> float:
+    def covering_cost(self, rect: Rect) -> float:
         """Returns what it costs to cover what lies below a rectangle."""
         near = {number for square in self.touched_squares(rect) for number in self.filed.get(square, [])}
         return sum(self.rects[number][1] * rect.shared_area(self.rects[number][0]) for number in sorted(near))
 
 
-def places_of(name: NameToPlace) -> Iterator[NamePlace]:
+def candidate_places(name: NameToPlace) -> Iterator[NamePlace]:
     """Yields the places for a name, the best first: above or below, at the sides, at the corners, and then further
     away."""
     cell, first = name.cell_rect, -1 if name.is_above else 1
@@ -93,8 +94,8 @@ def places_of(name: NameToPlace) -> Iterator[NamePlace]:
             yield NamePlace(Rect(x + dx - name.width / 2, y + dy - name.height / 2, name.width, name.height), away)
 
 
-def place_names(names: list[NameToPlace], signs: list[Rect], ports: list[Rect],
-                bounds: Rect | None = None) -> list[NamePlace]:
+def choose_name_places(names: list[NameToPlace], signs: list[Rect], ports: list[Rect],
+                       bounds: Rect | None = None) -> list[NamePlace]:
     """Returns a place for each name, within the bounds if it can.
 
     `ports` are the cells of ports that have no name of their own, and `signs` what a name should leave free if it can.
@@ -107,12 +108,12 @@ def place_names(names: list[NameToPlace], signs: list[Rect], ports: list[Rect],
     found = []
     for name in names:
         best, least = None, float("inf")
-        for place in places_of(name):
+        for place in candidate_places(name):
             base = place.lines_away * name.height
             if base >= least:
                 break
             outside = place.box.width * place.box.height - place.box.shared_area(bounds) if bounds else 0.0
-            cost = base + COVERING_COST * outside + obstacles.cost(place.box)
+            cost = base + COVERING_COST * outside + obstacles.covering_cost(place.box)
             if cost < least:
                 best, least = place, cost
         assert best is not None
@@ -123,7 +124,7 @@ def place_names(names: list[NameToPlace], signs: list[Rect], ports: list[Rect],
 
 def leader_line(place: NamePlace, cell: Rect) -> tuple[Point, Point] | None:
     """Returns a line from a name to its cell, if the name is so far away that it needs one."""
-    if place.lines_away < MIN_LEADER_AWAY:
+    if place.lines_away < MIN_LINES_AWAY_FOR_LEADER:
         return None
     box = place.box
     x, y = cell.x + cell.width / 2, cell.y + cell.height / 2

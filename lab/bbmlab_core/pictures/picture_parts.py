@@ -75,7 +75,7 @@ def cone_of(circuit: Circuit, name: str) -> list[str]:
     return list(found)
 
 
-def wanted_wires(look: PictureOptions, circuit: Circuit | None, names: Iterable[str]) -> set[str]:
+def highlighted_wires(look: PictureOptions, circuit: Circuit | None, names: Iterable[str]) -> set[str]:
     """Returns the wires that are brought out. Raises LabError for a name that is no wire's."""
     known = {*names, *(circuit.inputs if circuit else []), *(circuit.maker if circuit else [])}
     for name in [*look.wires, *([look.cone] if look.cone else [])]:
@@ -84,8 +84,8 @@ def wanted_wires(look: PictureOptions, circuit: Circuit | None, names: Iterable[
     return {*look.wires, *(cone_of(circuit, look.cone) if look.cone and circuit else [look.cone] if look.cone else [])}
 
 
-def with_others_grouped(ways: dict[str, list[Piece]], labels: dict[str, str],
-                        wanted: set[str]) -> dict[str, list[Piece]]:
+def ways_with_others_grouped(ways: dict[str, list[Piece]], labels: dict[str, str],
+                             wanted: set[str]) -> dict[str, list[Piece]]:
     """Returns the ways with all but those of some wires as one group.
 
     `labels` lists the equal wires, with commas between, of a way's own wire.

@@ -6,19 +6,19 @@ nothing until it can meet something (`flights`). All other blocks follow the blo
 
 from typing import Iterable, Iterator
 
-from ..physics.simulation import DIAGONAL_STRIDE, ROW_STRIDE, Table, cell_of, key_of
+from ..physics.simulation import DIAGONAL_STRIDE, ROW_STRIDE, TruthTable, cell_of, key_of
 from ..texts.layouts import Box, Cell, Layout
-from .flights import (BACK_FALLING, BACK_RISING, DIRECTION_OFFSETS, FALLING, FLIGHT_DIRECTIONS, RISING, ROW_SHIFT,
-                      SIDE_OFFSETS, Flights, Walls, is_firm, mirror_cell_numbers)
+from .flights import (BACK_FALLING, BACK_RISING, DIRECTION_BY_PARITIES, DIRECTION_OFFSETS, FALLING, RISING, ROW_SHIFT,
+                      SIDE_OFFSETS, Flights, MirrorBlocks, is_ball_proof, mirror_cell_numbers)
 
 # A straight piece of a way: its first and its last cell.
 Piece = tuple[Cell, Cell]
 # A piece that is not complete: its first cell, its table, and when it begins.
-OpenPiece = tuple[int, Table, int]
-DIRECTION_OF = {step: number for number, step in enumerate(DIRECTION_OFFSETS)}
+OpenPiece = tuple[int, TruthTable, int]
+DIRECTION_BY_OFFSET = {step: number for number, step in enumerate(DIRECTION_OFFSETS)}
 
 
-def block_moves(before: dict[int, Table], corner: int) -> list[tuple[int, int, Table]]:
+def block_moves(before: dict[int, TruthTable], corner: int) -> list[tuple[int, int, TruthTable]]:
     """Returns the moves in a block: from where, to where, and under which assignments. A collision goes by the sides.
     """
     a, b, c, d = corner, corner + 1, corner + ROW_STRIDE, corner + DIAGONAL_STRIDE
@@ -34,34 +34,34 @@ def block_moves(before: dict[int, Table], corner: int) -> list[tuple[int, int, T
 class WayRun:
     """A run of a layout that notes each move of a ball, joined to the move before it in its direction."""
 
-    def __init__(self, layout: Layout, tables: dict[str, Table], full: Table) -> None:
+    def __init__(self, layout: Layout, tables: dict[str, TruthTable], full: TruthTable) -> None:
         # Cells of mirrors that never changed.
         self.steady = mirror_cell_numbers(layout)
         # Whether no mirror ever changes.
-        self.is_firm = is_firm(self.steady)
+        self.is_ball_proof = is_ball_proof(self.steady)
         balls = dict.fromkeys([key_of(part.cell) for part in layout.of_kind("ball")], full)
         ins = {key_of(part.cell): table for part in layout.of_kind("in") if (table := tables.get(part.name or "", 0))}
         # What does not fly.
         self.live = dict.fromkeys(self.steady, full) | balls | ins
         # The cells whose blocks the next step looks at: moving ones, and ones that were left in the last two steps, if
         # a mirror can change once they are gone.
-        self.moving: list[int] = [key for key in self.live if not self.is_firm or key not in self.steady]
-        self.left: tuple[list[int], list[int]] = ([] if self.is_firm else list(self.moving), [])
+        self.moving: list[int] = [key for key in self.live if not self.is_ball_proof or key not in self.steady]
+        self.left: tuple[list[int], list[int]] = ([] if self.is_ball_proof else list(self.moving), [])
         self.outside = {key_of(cell) for cell in Box(0, 0, layout.width, layout.height).halo()}
-        self.flights = Flights(Walls(layout, self.steady))
+        self.flights = Flights(MirrorBlocks(layout, self.steady))
         # The pieces of balls that fly, by their numbers, and cells that they left since the last step.
         self.flown: dict[int, OpenPiece] = {}
         self.vacated: list[int] = []
         self.time = self.move_count = 0
         # By the number of its last cell and its direction, a piece that may go on; and pieces that ended.
         self.open: dict[int, OpenPiece] = {}
-        self.ended: list[tuple[int, int, Table, int]] = []
+        self.ended: list[tuple[int, int, TruthTable, int]] = []
 
     def run_steps(self, count: int) -> bool:
         """Makes steps up to a number of them, and returns whether everything stays in the rectangle."""
         until, is_inside, flights = self.time + count, True, self.flights
         while self.time < until and is_inside:
-            self.take_off(until)
+            self.start_free_flights(until)
             is_inside = self.step()
             # A ball that landed before its time may fly again, and lands now once more.
             self.moving += [self.land(number) for number in flights.due.pop(self.time, ()) if number in self.flown]
@@ -69,11 +69,11 @@ class WayRun:
         flights.due.clear()
         return is_inside
 
-    def take_off(self, until: int) -> None:
+    def start_free_flights(self, until: int) -> None:
         """Lets balls fly that can, at most until a time."""
         live, flights, time, odd, stay = self.live, self.flights, self.time, self.time & 1, list[int]()
         for key in self.moving:
-            direction = FLIGHT_DIRECTIONS[key & 1 ^ odd][key >> ROW_SHIFT & 1 ^ odd]
+            direction = DIRECTION_BY_PARITIES[key & 1 ^ odd][key >> ROW_SHIFT & 1 ^ odd]
             one, other = SIDE_OFFSETS[direction]
             is_free = not (key + DIRECTION_OFFSETS[direction] in live or key + one in live or key + other in live)
             number = flights.take_off(key, direction, time, until) if is_free else None
@@ -81,7 +81,7 @@ class WayRun:
                 stay.append(key)
                 continue
             self.flown[number] = self.take_open_piece(key, direction, live.pop(key), time)
-            if not self.is_firm:
+            if not self.is_ball_proof:
                 self.vacated.append(key)
         self.moving = stay
 
@@ -91,7 +91,7 @@ class WayRun:
         begun = self.flown.pop(number)
         self.live[key] = begun[1]
         self.move_count += steps
-        self.keep_open(key * 8 + (number & 3), begun)
+        self.note_open_piece(key * 8 + (number & 3), begun)
         return key
 
     def step(self) -> bool:
@@ -129,13 +129,13 @@ class WayRun:
     def move_lone_cell(self, start: int, end: int, direction: int, left: list[int]) -> None:
         """Moves the only live cell of a block."""
         table = self.live[end] = self.live.pop(start)
-        if not self.is_firm:
+        if not self.is_ball_proof:
             left.append(start)
             self.steady.discard(start)
         self.note_move(start, end, direction, table, self.time)
 
-    def apply_block_rule(self, corner: int, before: tuple[Table, Table, Table, Table], moving: list[int],
-                         left: list[int]) -> None:
+    def apply_block_rule(self, corner: int, before: tuple[TruthTable, TruthTable, TruthTable, TruthTable],
+                         moving: list[int], left: list[int]) -> None:
         """Applies the block rule to a block with more than one live cell."""
         keys, live, steady = (corner, corner + 1, corner + ROW_STRIDE, corner + DIAGONAL_STRIDE), self.live, self.steady
         a, b, c, d = before
@@ -144,10 +144,10 @@ class WayRun:
         flip, flip_other = one & ~other | both_other, other & ~one | both
         if flip or flip_other:
             for start, end, table in block_moves(dict(zip(keys, before)), corner):
-                self.note_move(start, end, DIRECTION_OF[end - start], table, self.time)
+                self.note_move(start, end, DIRECTION_BY_OFFSET[end - start], table, self.time)
             for key, old, change in zip(keys, before, (flip, flip_other, flip_other, flip)):
                 if change:
-                    if not self.is_firm:
+                    if not self.is_ball_proof:
                         steady.discard(key)
                         left.append(key)
                     live[key] = old ^ change
@@ -155,13 +155,13 @@ class WayRun:
                         del live[key]
         moving += [key for key in keys if key in live and key not in steady]
 
-    def note_move(self, start: int, end: int, direction: int, table: Table, time: int) -> None:
+    def note_move(self, start: int, end: int, direction: int, table: TruthTable, time: int) -> None:
         """Notes moves in a direction that begin at a time."""
         begun = self.take_open_piece(start, direction, table, time)
         self.move_count += 1
-        self.keep_open(end * 8 + direction, begun)
+        self.note_open_piece(end * 8 + direction, begun)
 
-    def take_open_piece(self, start: int, direction: int, table: Table, time: int) -> OpenPiece:
+    def take_open_piece(self, start: int, direction: int, table: TruthTable, time: int) -> OpenPiece:
         """Returns the piece that a move from a cell goes on with: the one that comes there just then, or a new one."""
         piece = self.open.pop(start * 8 + direction, None)
         if piece is None:
@@ -171,14 +171,14 @@ class WayRun:
         self.ended.append((piece[0], start, piece[1], piece[2]))
         return start, table, time
 
-    def keep_open(self, number: int, begun: OpenPiece) -> None:
+    def note_open_piece(self, number: int, begun: OpenPiece) -> None:
         """Notes the last cell and the direction of a piece that may go on."""
         old = self.open.get(number)
         if old is not None:
             self.ended.append((old[0], number >> 3, old[1], old[2]))
         self.open[number] = begun
 
-    def pieces(self) -> Iterator[tuple[int, int, Table, int]]:
+    def pieces(self) -> Iterator[tuple[int, int, TruthTable, int]]:
         """Returns all pieces: the first and the last cell, under which assignments a ball takes them, and when.
 
         They end in the rectangle.
@@ -211,30 +211,33 @@ def joined_pieces(pieces: Iterable[Piece]) -> list[Piece]:
     return sorted(joined)
 
 
-def all_pieces(layout: Layout, tables: dict[str, Table], full: Table, until: int) -> dict[Table, list[Piece]]:
+def pieces_by_table(layout: Layout, tables: dict[str, TruthTable], full: TruthTable,
+                    until: int) -> dict[TruthTable, list[Piece]]:
     """Returns the pieces of the ways of balls up to a time, as they fly, by the assignments under which a ball takes
     them."""
     run = WayRun(layout, tables, full)
     run.run_steps(until)
-    found: dict[Table, list[Piece]] = {}
+    found: dict[TruthTable, list[Piece]] = {}
     for start, end, table, _ in run.pieces():
         found.setdefault(table, []).append((cell_of(start), cell_of(end)))
     return dict(sorted(found.items()))
 
 
-def ways_of(layout: Layout, tables: dict[str, Table], full: Table, until: int) -> dict[Table, list[Piece]]:
+def ways_by_table(layout: Layout, tables: dict[str, TruthTable], full: TruthTable,
+                  until: int) -> dict[TruthTable, list[Piece]]:
     """Returns the pieces of the ways of balls up to a time by the assignments under which a ball takes them.
 
     Each goes from its left end to its right end. Pieces of one line may share cells.
     """
     return {table: [(one, two) if one < two else (two, one) for one, two in pieces]
-            for table, pieces in all_pieces(layout, tables, full, until).items()}
+            for table, pieces in pieces_by_table(layout, tables, full, until).items()}
 
 
-def directed_ways(layout: Layout, tables: dict[str, Table], full: Table, until: int) -> dict[Table, list[Piece]]:
+def directed_ways(layout: Layout, tables: dict[str, TruthTable], full: TruthTable,
+                  until: int) -> dict[TruthTable, list[Piece]]:
     """Returns the same ways with their directions, joined: each piece goes as its ball flies."""
     found = {}
-    for table, pieces in all_pieces(layout, tables, full, until).items():
+    for table, pieces in pieces_by_table(layout, tables, full, until).items():
         on = joined_pieces(piece for piece in pieces if piece[0] < piece[1])
         found[table] = on + [(last, first) for first,
                              last in joined_pieces(piece for piece in pieces if piece[0] >= piece[1])]

@@ -7,13 +7,13 @@ from typing import Callable
 
 from ..texts.circuits import Gate
 from .board import Board, FailureKind, NoRouteError, Placement
-from .design import Design, as_forward_design
+from .design import RoutedDesign, as_forward_design
 from .ends import EndWiring
-from .escapes import Escapes
+from .escapes import EscapeWiring
 from .netlist import RouterNetlist
 from .placement import Placer, required_ball
-from .ripup import WayMaker
-from .settings import Settings
+from .ripup import PathRipper
+from .settings import RouterSettings
 
 # The number that stands for the end in the counts of failures.
 NO_GATE = -1
@@ -30,8 +30,8 @@ def ignore_progress(placed: int, total: int) -> None:
 class Attempt:
     """An attempt. It depends on circuit, size, seed and settings alone, unless the time is over."""
 
-    def __init__(self, netlist: RouterNetlist, size: int, seed: int, settings: Settings, deadline: float = float("inf"),
-                 most_size: int = 0, height: int | None = None) -> None:
+    def __init__(self, netlist: RouterNetlist, size: int, seed: int, settings: RouterSettings,
+                 deadline: float = float("inf"), most_size: int = 0, height: int | None = None) -> None:
         self.netlist = netlist
         # The side up to which the plane may grow.
         self.most_size = max(size, min(most_size, int(settings.most_growth * size)))
@@ -39,10 +39,10 @@ class Attempt:
         self.chance = random.Random(seed)
         self.placer = Placer(self.board, self.chance)
         self.settings, self.deadline = settings, deadline
-        self.placer.finder.check_time = self.check_time
-        self.way_maker = WayMaker(self.board, self.placer)
-        self.escapes = Escapes(self.board, self.placer)
-        self.ends = EndWiring(self.placer, self.way_maker, self.escapes, self.most_size, self.check_time)
+        self.placer.finder.require_time_left = self.require_time_left
+        self.way_maker = PathRipper(self.board, self.placer)
+        self.escapes = EscapeWiring(self.board, self.placer)
+        self.ends = EndWiring(self.placer, self.way_maker, self.escapes, self.most_size, self.require_time_left)
         self.doing = "the search began"
         self.todo = {gate.number: gate for gate in self.netlist.gates}
         self.failures: Counter[int] = Counter()
@@ -51,31 +51,31 @@ class Attempt:
         self.most_placed = 0
         self.best_steps: list[Placement] = []
 
-    def check_time(self) -> None:
+    def require_time_left(self) -> None:
         """Raises OutOfTimeError when the time is over, with what was done then."""
         if time.monotonic() > self.deadline:
             raise OutOfTimeError(f"the time was over while {self.doing}", FailureKind.TIME)
 
-    def run(self, progress: Callable[[int, int], None] = ignore_progress) -> Design:
+    def run(self, progress: Callable[[int, int], None] = ignore_progress) -> RoutedDesign:
         """Places all gates and leads all balls to the end; raises NoRouteError."""
         total = len(self.todo)
         while True:
-            self.check_time()
+            self.require_time_left()
             if not self.todo:
                 why = self.lead_ends_or_say_why()
                 if why is None:
-                    return self.design()
-                self.take_back(NO_GATE, why)
+                    return self.design_on_board()
+                self.take_last_gates_back(NO_GATE, why)
                 continue
             gate = self.next_gate()
             self.doing = f"gate {gate.number} ({gate.kind} {' '.join(gate.ins)}) was placed"
             step = self.find_placement_with_growth(gate)
-            if step is None and self.free_blamed_ball():
+            if step is None and self.lead_blamed_ball_away():
                 step = self.find_placement_with_growth(gate)
             if step is not None:
                 self.board.add_placement(step)
             elif not self.settings.rip_counts or not self.way_maker.place_by_ripping(gate):
-                self.take_back(gate.number, self.failure_reason(gate))
+                self.take_last_gates_back(gate.number, self.failure_reason(gate))
                 continue
             step = self.board.steps[-1]
             self.placer.horizon = max(self.placer.horizon, self.placer.estimated_end(step))
@@ -90,8 +90,8 @@ class Attempt:
         """Returns a way to place a gate, or None. If it found no room, the plane grows and it is tried again."""
         step = self.placer.find_placement(gate)
         for _ in range(self.settings.growths):
-            if step is not None or not self.is_room_lacking() or not self.board.grow(self.settings.growth_divisor,
-                                                                                     self.most_size):
+            if (step is not None or not self.is_room_lacking()
+                    or not self.board.try_grow(self.settings.growth_divisor, self.most_size)):
                 break
             step = self.placer.find_placement(gate)
         return step
@@ -101,7 +101,7 @@ class Attempt:
         reasons = self.placer.reasons
         return 2 * reasons["no path"] <= reasons["tries"] or 2 * reasons["no room"] > reasons.total()
 
-    def free_blamed_ball(self) -> bool:
+    def lead_blamed_ball_away(self) -> bool:
         """Leads the ball that kept a gate from its places most often to open ground, where it waits on; returns whether
         that was possible. If there is no way out, paths to gates make way."""
         blame, board = self.placer.blame, self.board
@@ -111,10 +111,10 @@ class Attempt:
             return False
         waiting = board.stop_waiting(root)
         ball = required_ball(waiting)
-        path = self.escapes.add_path_to_open_ground(root, ball) or self.way_maker.lead_through(
+        path = self.escapes.add_path_to_open_ground(root, ball) or self.way_maker.lead_by_ripping(
             ball, lambda: self.escapes.add_path_to_open_ground(root, ball))
         if path is None:
-            board.add_waiting(root, waiting)
+            board.add_waiting_ball(root, waiting)
             return False
         on = board.new_waiting_ball(path.end)
         board.remove_path(path)
@@ -142,14 +142,14 @@ class Attempt:
         netlist, waiting = self.netlist, self.board.waiting
 
         def rank(gate: Gate) -> tuple[bool, bool, bool, float, int]:
-            balls = [waiting[netlist.root(wire)].ball for wire in gate.ins if not netlist.has_no_ball(wire)]
+            balls = [waiting[netlist.root_wire_of(wire)].ball for wire in gate.ins if not netlist.has_no_ball(wire)]
             times = [ball.time for ball in balls if ball is not None]
             is_alone = not times and self.placer.partner_ball(gate, []) is None
             need = max(times, default=0) - self.weight * netlist.tails[gate.number]
             return gate.number in netlist.late_gates, not times, is_alone, need, gate.number
 
         ready = [gate for gate in self.todo.values()
-                 if all(netlist.has_no_ball(wire) or netlist.root(wire) in waiting for wire in gate.ins)]
+                 if all(netlist.has_no_ball(wire) or netlist.root_wire_of(wire) in waiting for wire in gate.ins)]
         return min(ready, key=rank)
 
     def failure_reason(self, gate: Gate) -> str:
@@ -165,7 +165,7 @@ class Attempt:
         reasons = self.placer.reasons
         return FailureKind.PATH if 2 * reasons["no path"] > reasons["tries"] > 0 else FailureKind.ROOM
 
-    def take_back(self, number: int, why: str) -> None:
+    def take_last_gates_back(self, number: int, why: str) -> None:
         """Takes some of the last gates back, and moves the failed gate's makers; raises NoRouteError after too many
         failures."""
         self.failures[number] += 1
@@ -181,7 +181,7 @@ class Attempt:
             if made and made[0] <= 12:
                 count = made[0]
         for _ in range(min(count, len(self.board.steps))):
-            step = self.board.take_back()
+            step = self.board.take_last_gate_back()
             self.todo[step.gate.number] = self.netlist.lines[step.gate.number]
         self.placer.horizon = max((self.placer.estimated_end(step) for step in self.board.steps), default=0)
 
@@ -198,7 +198,7 @@ class Attempt:
             if len(steps) > self.settings.most_taken_out:
                 return False
         for step in reversed(steps):
-            if not self.board.take_out(step):
+            if not self.board.take_gate_out(step):
                 return step is not steps[-1]
             self.todo[step.gate.number] = self.netlist.lines[step.gate.number]
         self.placer.horizon = max((self.placer.estimated_end(step) for step in self.board.steps), default=0)
@@ -211,10 +211,10 @@ class Attempt:
         self.doing = f"balls were led to the last time, {self.ends.earliest_end_time()}"
         return self.ends.lead_all_or_say_why()
 
-    def design(self) -> Design:
+    def design_on_board(self) -> RoutedDesign:
         """Returns the design that is on the board, forward in time."""
         board = self.board
         end = max([path.end.time for path in board.ends], default=self.ends.earliest_end_time())
         paths = [path for step in board.steps for path in [*step.paths, *step.parking_paths]] + board.ends
-        return as_forward_design(Design(self.netlist.circuit, self.netlist, board.width, board.height, end,
+        return as_forward_design(RoutedDesign(self.netlist.circuit, self.netlist, board.width, board.height, end,
                                      [step.gate for step in board.steps], paths))

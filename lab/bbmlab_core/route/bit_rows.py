@@ -11,13 +11,13 @@ import random
 from itertools import islice
 from typing import Iterator, NamedTuple
 
-from .balls import BOUNCE_STEPS, Ball, Leg, Turn, bounce, bounce_before
-from .settings import Settings
-from .world import ROW_STRIDE, World
+from .balls import BOUNCE_STEPS, Ball, BounceKind, Leg, ball_and_mirror_after_bounce, ball_and_mirror_before_bounce
+from .settings import RouterSettings
+from .world import ROW_STRIDE, RoutingGrid
 
 # The cells of a mirror as seen from the cell of the ball that it turns.
-MIRROR_OFFSETS = {(turn, dx, dy): bounce(Ball(0, 0, dx, dy, 0), turn)[1].cells() for turn in Turn for dx in (1, -1)
-                  for dy in (1, -1)}
+MIRROR_OFFSETS = {(turn, dx, dy): ball_and_mirror_after_bounce(Ball(0, 0, dx, dy, 0), turn)[1].cells()
+                  for turn in BounceKind for dx in (1, -1) for dy in (1, -1)}
 # The most paths that are yielded for one last bounce.
 MAX_PATHS_PER_BEND = 3
 
@@ -27,7 +27,7 @@ class Bend(NamedTuple):
     bounce, before it."""
 
     steps: int
-    turn: Turn
+    turn: BounceKind
     ball: Ball
 
 
@@ -39,10 +39,10 @@ class MiddleLegs(NamedTuple):
     back: int
 
 
-def legs_between(first: Bend, last: Bend, most: int) -> MiddleLegs | None:
+def middle_legs_between(first: Bend, last: Bend, most: int) -> MiddleLegs | None:
     """Returns the legs between two bounces if they fit place and time, and those that take up time have at most `most`
     steps."""
-    ball, goal, is_flat = first.ball, last.ball, first.turn is Turn.FLAT
+    ball, goal, is_flat = first.ball, last.ball, first.turn is BounceKind.FLAT
     u, v = (goal.x - ball.x) * ball.dx, (goal.y - ball.y) * ball.dy
     u, v = (u + 1, v - 3) if is_flat else (u - 3, v + 1)
     along = (u - v) // 2 if is_flat else (v - u) // 2
@@ -64,14 +64,14 @@ def unset_bit_steps(bits: int, x: int, dx: int, low: int, high: int) -> Iterator
         yield low + index if dx > 0 else high - index
 
 
-class BitJoiner:
+class BallJoiner:
     """Joins balls by bounces in a world that does not change meanwhile. Claims of blocks are not tested."""
 
-    def __init__(self, world: World, chance: random.Random, settings: Settings) -> None:
+    def __init__(self, world: RoutingGrid, chance: random.Random, settings: RouterSettings) -> None:
         self.world, self.chance, self.settings = world, chance, settings
-        self.known: dict[tuple[int, bool, Turn, int, int], int] = {}
+        self.known: dict[tuple[int, bool, BounceKind, int, int], int] = {}
 
-    def taken_columns(self, ball: Ball, turn: Turn, is_falling: bool) -> int:
+    def taken_column_bits(self, ball: Ball, turn: BounceKind, is_falling: bool) -> int:
         """Returns in which columns a ball that comes in this direction to a cell of a diagonal finds no room for its
         mirror, as bits.
 
@@ -91,7 +91,7 @@ class BitJoiner:
         """Returns the steps after which a ball can bounce inside the plane, at most those of the longest leg."""
         return min(self.world.free_steps(ball, self.settings.longest_leg), self.world.steps_to_margin(ball))
 
-    def pop_in_random_order(self, found: list[tuple[int, Turn]]) -> Iterator[tuple[int, Turn]]:
+    def pop_in_random_order(self, found: list[tuple[int, BounceKind]]) -> Iterator[tuple[int, BounceKind]]:
         """Yields the members of a list in random order, without shuffling them all at once."""
         while found:
             index = int(self.chance.random() * len(found))
@@ -102,31 +102,33 @@ class BitJoiner:
     def first_bends(self, ball: Ball, least: int) -> Iterator[Bend]:
         """Yields the bounces on the straight way of a ball for which a mirror has room, in random order."""
         most, is_falling = self.most_steps_to_bounce(ball), ball.dx == ball.dy
-        found = [(steps, turn) for turn in Turn if most >= least
-                 for steps in unset_bit_steps(self.taken_columns(ball, turn, is_falling), ball.x, ball.dx, least, most)]
+        found = [(steps, turn) for turn in BounceKind if most >= least
+                 for steps in unset_bit_steps(self.taken_column_bits(ball, turn, is_falling),
+                                              ball.x, ball.dx, least, most)]
         for steps, turn in self.pop_in_random_order(found):
-            yield Bend(steps, turn, bounce(ball.flown(steps), turn)[0])
+            yield Bend(steps, turn, ball_and_mirror_after_bounce(ball.after_flight(steps), turn)[0])
 
     def last_bends(self, goal: Ball) -> Iterator[Bend]:
         """Yields the bounces from which a ball flies straight to a goal and for which a mirror has room, in random
         order."""
         most, is_falling = self.most_steps_to_bounce(goal.time_reversed()), goal.dx == goal.dy
-        found: list[tuple[int, Turn]] = []
-        for turn in Turn:
+        found: list[tuple[int, BounceKind]] = []
+        for turn in BounceKind:
             if most < BOUNCE_STEPS:
                 break
-            before = bounce_before(goal, turn)[0]
+            before = ball_and_mirror_before_bounce(goal, turn)[0]
             found += ((steps, turn)
-                      for steps in unset_bit_steps(self.taken_columns(before, turn, is_falling), before.x, -goal.dx,
+                      for steps in unset_bit_steps(self.taken_column_bits(before, turn, is_falling), before.x, -goal.dx,
                                                    BOUNCE_STEPS, most))
         for steps, turn in self.pop_in_random_order(found):
-            yield Bend(steps, turn, bounce_before(goal.flown(-steps), turn)[0])
+            yield Bend(steps, turn, ball_and_mirror_before_bounce(goal.after_flight(-steps), turn)[0])
 
     def joining_legs(self, start: Ball, goal: Ball, begun: int, count: int) -> Iterator[list[Leg]]:
         """Yields legs from a ball to a ball with four bounces, the last of them at `count` random places."""
         if start.dx * start.dy != goal.dx * goal.dy or self.most_steps_to_bounce(start) < begun:
             return
-        firsts = [Bend(begun, turn, bounce(start.flown(begun), turn)[0]) for turn in Turn]
+        firsts = [Bend(begun, turn, ball_and_mirror_after_bounce(start.after_flight(begun), turn)[0])
+                  for turn in BounceKind]
         for last in islice(self.last_bends(goal), count):
             for first in firsts:
                 if (first.ball.dx, first.ball.dy) == (-last.ball.dx, -last.ball.dy):
@@ -134,13 +136,13 @@ class BitJoiner:
 
     def legs_with_bends(self, start: Ball, first: Bend, last: Bend) -> Iterator[list[Leg]]:
         """Yields legs with given turns and a given last bounce. `first` is the earliest first bounce."""
-        world, middle = self.world, legs_between(first, last, self.settings.longest_detour)
+        world, middle = self.world, middle_legs_between(first, last, self.settings.longest_detour)
         if middle is None:
             return
-        second = first.ball.flown(middle.out)
-        third = bounce(second, first.turn)[0].flown(middle.along)
-        behind, mirror = bounce(third, first.turn.other)
-        if not world.can_hold(mirror) or not self.is_open(behind, middle.back):
+        second = first.ball.after_flight(middle.out)
+        third = ball_and_mirror_after_bounce(second, first.turn)[0].after_flight(middle.along)
+        behind, mirror = ball_and_mirror_after_bounce(third, first.turn.other)
+        if not world.has_room_for_mirror(mirror) or not self.is_way_free(behind, middle.back):
             return
         # The third bounce stays where it is, so the second one is at most as far from it as a ball flies back from
         # there.
@@ -151,19 +153,19 @@ class BitJoiner:
             return
         is_falling = start.dx == start.dy
         shift = second.x - first.steps * start.dx - start.x
-        others = self.taken_columns(second, first.turn, is_falling)
-        taken = self.taken_columns(start, first.turn, is_falling)
+        others = self.taken_column_bits(second, first.turn, is_falling)
+        taken = self.taken_column_bits(start, first.turn, is_falling)
         taken |= others >> shift if shift >= 0 else others << -shift
         for steps in unset_bit_steps(taken, start.x, start.dx, low, high):
             more = steps - first.steps
-            if self.is_open(ball_moved_along(first.ball, start, more),
-                            middle.out) and self.is_inside(ball_moved_along(second, start, more)):
+            if self.is_way_free(ball_moved_along(first.ball, start, more),
+                                middle.out) and self.is_inside(ball_moved_along(second, start, more)):
                 yield [Leg(steps, first.turn), Leg(middle.out, first.turn), Leg(middle.along - more, first.turn.other),
                        Leg(middle.back, last.turn), Leg(last.steps, None)]
 
-    def is_open(self, ball: Ball, steps: int) -> bool:
+    def is_way_free(self, ball: Ball, steps: int) -> bool:
         """Whether no mirror is in the way of a ball that has just bounced, for some steps."""
-        return self.world.free_steps(ball.flown(BOUNCE_STEPS), steps - BOUNCE_STEPS) >= steps - BOUNCE_STEPS
+        return self.world.free_steps(ball.after_flight(BOUNCE_STEPS), steps - BOUNCE_STEPS) >= steps - BOUNCE_STEPS
 
     def is_inside(self, ball: Ball) -> bool:
         """Whether a ball is inside the plane."""

@@ -11,8 +11,8 @@ from .balls import Ball, Leg
 from .cells import GateCell
 from .netlist import RouterNetlist
 from .paths import Path
-from .settings import Settings
-from .world import ROW_STRIDE, TILE, Footprint, World, cell_item, path_item
+from .settings import RouterSettings
+from .world import ROW_STRIDE, TILE_SIDE, Footprint, RoutingGrid, gate_cell_footprint, path_footprint
 
 
 class FailureKind(Enum):
@@ -57,11 +57,11 @@ class PlacedGate:
 
     def output_ball(self, name: str) -> Ball:
         """Returns the ball of an output."""
-        return self.cell.outs[name].moved(self.x, self.y, self.time)
+        return self.cell.outs[name].shifted_by(self.x, self.y, self.time)
 
     def input_ball(self, name: str) -> Ball:
         """Returns the ball of an input."""
-        return self.cell.ins[name].moved(self.x, self.y, self.time)
+        return self.cell.ins[name].shifted_by(self.x, self.y, self.time)
 
 
 @dataclass(frozen=True)
@@ -88,16 +88,17 @@ class Placement:
     parking_paths: list[Path] = field(default_factory=list)
     waiting_before: dict[str, WaitingBall] = field(default_factory=dict)
 
-    def with_number(self, number: int) -> "Placement":
+    def with_gate_number(self, number: int) -> "Placement":
         """Returns the step for a gate with another number, before it is added."""
         return Placement(replace(self.gate, number=number), self.paths, self.outs, self.parking_paths)
 
 
 def gate_tile_box(cell: GateCell, x: int, y: int) -> TileBox:
     """Returns the box of whole tiles whose inside has all cells of a placed gate that carry no wire."""
-    left, top, right, bottom = cell.unnamed_bounds
-    first_column, first_row = (left + x - 1) // TILE, (top + y - 1) // TILE
-    return first_column, first_row, (right + x + 1) // TILE - first_column + 1, (bottom + y + 1) // TILE - first_row + 1
+    left, top, right, bottom = cell.unnamed_cell_bounds
+    first_column, first_row = (left + x - 1) // TILE_SIDE, (top + y - 1) // TILE_SIDE
+    last_column, last_row = (right + x + 1) // TILE_SIDE, (bottom + y + 1) // TILE_SIDE
+    return first_column, first_row, last_column - first_column + 1, last_row - first_row + 1
 
 
 def tiles_in(box: TileBox) -> list[int]:
@@ -109,11 +110,11 @@ def tiles_in(box: TileBox) -> list[int]:
 class Board:
     """The state of an attempt. Each change can be taken back."""
 
-    def __init__(self, netlist: RouterNetlist, size: int, settings: Settings, height: int | None = None) -> None:
+    def __init__(self, netlist: RouterNetlist, size: int, settings: RouterSettings, height: int | None = None) -> None:
         self.netlist, self.settings = netlist, settings
-        self.world = World(size, height)
+        self.world = RoutingGrid(size, height)
         # The root wires that wait.
-        self.waiting: dict[str, WaitingBall] = {root: WaitingBall() for root in netlist.free_roots()}
+        self.waiting: dict[str, WaitingBall] = {root: WaitingBall() for root in netlist.roots_starting_anywhere()}
         self.steps: list[Placement] = []
         self.ends: list[Path] = []
         # For each tile the wires that its box needs, with the number of items for which it does; and the gate that owns
@@ -131,10 +132,10 @@ class Board:
         """The height of the plane."""
         return self.world.height
 
-    def grow(self, part: int, most: int) -> bool:
+    def try_grow(self, part: int, most: int) -> bool:
         """Adds the given part of the side at the right and below, in whole pairs of tiles; returns whether that is at
         most `most` cells."""
-        cells = max(2 * TILE, self.width // part // (2 * TILE) * 2 * TILE)
+        cells = max(2 * TILE_SIDE, self.width // part // (2 * TILE_SIDE) * 2 * TILE_SIDE)
         if self.width + cells > most:
             return False
         self.world.grow(cells)
@@ -142,7 +143,7 @@ class Board:
 
     # --- wires of boxes -----------------------------------------------------------------------------------------------
 
-    def count_wire_needs(self, wires: Iterable[str], tiles: Iterable[int], change: int) -> None:
+    def change_wire_need_counts(self, wires: Iterable[str], tiles: Iterable[int], change: int) -> None:
         """Notes that tiles need wires for one more item, or for one less."""
         for tile in tiles:
             names = self.names.setdefault(tile, {})
@@ -161,7 +162,7 @@ class Board:
         """Returns the wires that some tiles need."""
         return {wire for tile in tiles for wire in self.names.get(tile, ())}
 
-    def has_room_for(self, root: str, tiles: frozenset[int]) -> bool:
+    def has_wire_room_for(self, root: str, tiles: frozenset[int]) -> bool:
         """Whether the boxes of tiles have room for the wires of a ball."""
         wires = self.wires_of(root)
         if not wires:
@@ -173,9 +174,9 @@ class Board:
                 if len(few_cuts_and_uses(self.netlist.circuit, {*names, *wires}, ())[0]) > MAX_CUTS:
                     return False
         # A gate's box also knows the wires that pass within one cell of it.
-        return all(self.has_box_room(box, [gate.number], wires, 1) for box, gate in boxes.items())
+        return all(self.has_wire_room_in_box(box, [gate.number], wires, 1) for box, gate in boxes.items())
 
-    def has_box_room(self, box: TileBox, used: list[int], wires: Iterable[str], spare: int = 0) -> bool:
+    def has_wire_room_in_box(self, box: TileBox, used: list[int], wires: Iterable[str], spare: int = 0) -> bool:
         """Whether a box that uses gates has room for more wires, and then for `spare` others."""
         names = self.wires_needed_in(tiles_in(box)) | set(wires)
         return len(few_cuts_and_uses(self.netlist.circuit, names, used)[0]) <= MAX_CUTS - spare
@@ -185,19 +186,19 @@ class Board:
     def new_waiting_ball(self, ball: Ball) -> WaitingBall | None:
         """Returns a ball that waits, or None if its next steps leave the layout or meet something."""
         for steps in self.settings.reserved_steps:
-            far = ball.flown(steps)
+            far = ball.after_flight(steps)
             if self.world.is_inside(far.x, far.y) and self.world.is_inside(ball.x, ball.y):
-                item = path_item(ball, [Leg(steps, None)])
+                item = path_footprint(ball, [Leg(steps, None)])
                 if item and self.world.can_add(item):
                     return WaitingBall(ball, item)
         return None
 
-    def add_waiting(self, root: str, waiting: WaitingBall) -> None:
+    def add_waiting_ball(self, root: str, waiting: WaitingBall) -> None:
         """Makes a root wait."""
         self.waiting[root] = waiting
         if waiting.item is not None:
             self.world.add(waiting.item)
-            self.count_wire_needs(self.wires_of(root), waiting.item.tiles, 1)
+            self.change_wire_need_counts(self.wires_of(root), waiting.item.tiles, 1)
 
     def wait_again(self, root: str, before: WaitingBall) -> bool:
         """Makes a root wait as before, or with a shorter reservation if something is in the way; returns whether that
@@ -207,7 +208,7 @@ class Board:
             waiting = self.new_waiting_ball(before.ball)
         if waiting is None:
             return False
-        self.add_waiting(root, waiting)
+        self.add_waiting_ball(root, waiting)
         return True
 
     def stop_waiting(self, root: str) -> WaitingBall:
@@ -215,7 +216,7 @@ class Board:
         waiting = self.waiting.pop(root)
         if waiting.item is not None:
             self.world.remove(waiting.item)
-            self.count_wire_needs(self.wires_of(root), waiting.item.tiles, -1)
+            self.change_wire_need_counts(self.wires_of(root), waiting.item.tiles, -1)
         return waiting
 
     # --- paths and gates ----------------------------------------------------------------------------------------------
@@ -224,35 +225,35 @@ class Board:
         """Adds a path, which may be in the world already."""
         if not is_there:
             self.world.add(path.item)
-        self.count_wire_needs(self.wires_of(path.wire), path.item.tiles, 1)
+        self.change_wire_need_counts(self.wires_of(path.wire), path.item.tiles, 1)
 
     def remove_path(self, path: Path) -> None:
         """Removes a path."""
         self.world.remove(path.item)
-        self.count_wire_needs(self.wires_of(path.wire), path.item.tiles, -1)
+        self.change_wire_need_counts(self.wires_of(path.wire), path.item.tiles, -1)
 
-    def placed_gate(self, x: int, y: int, time: int, cell: GateCell, number: int) -> PlacedGate:
+    def make_placed_gate(self, x: int, y: int, time: int, cell: GateCell, number: int) -> PlacedGate:
         """Returns a gate's cell at a place and a time, without adding it."""
-        return PlacedGate(number, cell, x, y, time, gate_tile_box(cell, x, y), cell_item(cell, x, y, time))
+        return PlacedGate(number, cell, x, y, time, gate_tile_box(cell, x, y), gate_cell_footprint(cell, x, y, time))
 
     def gate_wires(self, gate: PlacedGate) -> list[str]:
         """Returns the wires at a gate's ports that are no constants."""
         line = self.netlist.circuit.gates[gate.number]
-        return [wire for wire in line.ins + line.outs if self.netlist.root(wire) not in self.netlist.constants]
+        return [wire for wire in line.ins + line.outs if self.netlist.root_wire_of(wire) not in self.netlist.constants]
 
     def add_gate(self, gate: PlacedGate) -> None:
         """Adds a gate's cell and its box."""
         self.world.add(gate.item)
         for tile in tiles_in(gate.box):
             self.owners[tile] = gate
-        self.count_wire_needs(self.gate_wires(gate), self.touched_gate_tiles(gate), 1)
+        self.change_wire_need_counts(self.gate_wires(gate), self.touched_gate_tiles(gate), 1)
 
     def remove_gate(self, gate: PlacedGate) -> None:
         """Removes a gate's cell and its box."""
         self.world.remove(gate.item)
         for tile in tiles_in(gate.box):
             del self.owners[tile]
-        self.count_wire_needs(self.gate_wires(gate), self.touched_gate_tiles(gate), -1)
+        self.change_wire_need_counts(self.gate_wires(gate), self.touched_gate_tiles(gate), -1)
 
     def touched_gate_tiles(self, gate: PlacedGate) -> frozenset[int]:
         """Returns the tiles to which a gate's moving cells come."""
@@ -267,7 +268,7 @@ class Board:
         for path in step.parking_paths:
             self.add_path(path)
         for wire, waiting in step.outs.items():
-            self.add_waiting(wire, waiting)
+            self.add_waiting_ball(wire, waiting)
         self.steps.append(step)
 
     def adopt_placements(self, steps: list[Placement]) -> str:
@@ -292,9 +293,9 @@ class Board:
         self.add_path(path)
         step.parking_paths.append(path)
         step.outs[path.wire] = waiting
-        self.add_waiting(path.wire, waiting)
+        self.add_waiting_ball(path.wire, waiting)
 
-    def take_back(self) -> Placement:
+    def take_last_gate_back(self) -> Placement:
         """Takes the last gate back, and returns it."""
         step = self.steps.pop()
         for wire in step.outs:
@@ -308,7 +309,7 @@ class Board:
         step.waiting_before = {}
         return step
 
-    def take_out(self, step: Placement) -> bool:
+    def take_gate_out(self, step: Placement) -> bool:
         """Takes any gate back whose outputs all wait, so that it can be placed elsewhere; returns whether its inputs
         have room to wait."""
         if any(wire not in self.waiting for wire in step.outs):
@@ -332,5 +333,5 @@ class Board:
         for path in [*step.paths, *step.parking_paths]:
             self.add_path(path)
         for wire, waiting in step.outs.items():
-            self.add_waiting(wire, waiting)
+            self.add_waiting_ball(wire, waiting)
         return False

@@ -10,11 +10,11 @@ from dataclasses import dataclass
 from typing import Callable, Iterable, Iterator, NamedTuple
 
 from ..texts.layouts import Box
-from .balls import BOUNCE_STEPS, Ball, Leg, Turn, bounce, reversed_legs
-from .bit_rows import BitJoiner
-from .coils import Coil, coils_of, least_width
+from .balls import BOUNCE_STEPS, Ball, BounceKind, Leg, ball_and_mirror_after_bounce, reversed_legs
+from .bit_rows import BallJoiner
+from .coils import Coil, coils_entered_by, least_coil_width
 from .paths import Path, PathFinder, is_in_reach
-from .world import MARGIN_CELLS, ROW_STRIDE, TILE, Footprint, World, path_item
+from .world import MARGIN_CELLS, ROW_STRIDE, TILE_SIDE, Footprint, RoutingGrid, path_footprint
 
 # The cells between two coils, and between a coil and other paths: balls pass between coils.
 STREET_CELLS = 24
@@ -23,10 +23,10 @@ PATH_STREET_CELLS = 4
 MAX_ROWS_AWAY = 1100
 # The bounces that a search tries at most, the longest leg, and the cells in which it comes to a place once.
 MAX_TRIED_BOUNCES = 2000
-LONGEST_LEG = 150
+MAX_LEG_STEPS = 150
 SEARCH_GRID_CELLS = 4
 # The steps of a leg at which a bounce is tried: all for the first bounces, as a ball has few ways out of its part.
-EVERY_STEP_BOUNCES = 40
+BOUNCES_TRIED_AT_EVERY_STEP = 40
 LEG_STRIDE = 8
 # The cost of a bounce in cells, and how much dearer than in steps the way that is left is taken to be.
 BOUNCE_COST = 10
@@ -34,22 +34,23 @@ COST_PER_CELL_LEFT = 5
 # A coil begins at least so many steps behind the last bounce.
 LEAST_STEPS_TO_COIL = 12
 # The tiles within which the distance to a coil is known.
-FARTHEST_TILES = 140
+MAX_TILE_DISTANCE = 140
 # A ball can fly at least so many steps on behind a bounce.
-LEAST_STEPS_ON = 9
+LEAST_STEPS_AFTER_BOUNCE = 9
 # The side of the free squares that are open ground, the steps to spare with which a ball comes there, and the bounces
 # that are tried at most. In `multiplier_6` ways came after at most 1,148 bounces; other searches found none in 2,000.
 OPEN_SQUARE_SIDE = 48
-OPEN_SPARE_STEPS = 110
+OPEN_GROUND_SPARE_STEPS = 110
 MAX_TRIED_OPEN_BOUNCES = 1200
 # The first bit of each tile of a row, and the digits 0 and 1 for these numbers.
-TILE_FIRST_BITS = sum(1 << column for column in range(0, ROW_STRIDE, TILE))
+TILE_FIRST_BITS = sum(1 << column for column in range(0, ROW_STRIDE, TILE_SIDE))
 DIGIT_TABLE = bytes.maketrans(b"\0\1", b"01")
 # What a leg takes is less than so many cells away from the rectangle between its ends.
 LEG_SPAN_MARGIN = 12
 # The balls behind bounces, by the direction before them, as seen from the cell of the bounce.
-BALLS_BEHIND = {(dx, dy): [(turn, bounce(Ball(0, 0, dx, dy, 0), turn)[0]) for turn in Turn]
-                for dx in (1, -1) for dy in (1, -1)}
+BALLS_BEHIND_BOUNCES = {(dx, dy): [(turn, ball_and_mirror_after_bounce(Ball(0, 0, dx, dy, 0), turn)[0])
+                                   for turn in BounceKind]
+                        for dx in (1, -1) for dy in (1, -1)}
 
 
 @dataclass(frozen=True, eq=False)
@@ -62,15 +63,15 @@ class CoiledPath(Path):
 class CoilGround:
     """The cells of a world where coils may be: off its border, off some boxes and off other coils."""
 
-    def __init__(self, world: World, boxes: Iterable[Box]) -> None:
+    def __init__(self, world: RoutingGrid, boxes: Iterable[Box]) -> None:
         self.world = world
         whole = (1 << world.size - MARGIN_CELLS) - (1 << MARGIN_CELLS)
         self.rows = [whole if MARGIN_CELLS <= y < world.height - MARGIN_CELLS else 0 for y in range(world.height)]
         for box in boxes:
-            self.take_box(box)
+            self.exclude_box(box)
         self.without_coils = list(self.rows)
 
-    def take_box(self, box: Box) -> None:
+    def exclude_box(self, box: Box) -> None:
         """Takes the cells of a box out."""
         own = (1 << max(0, box.x + box.width)) - (1 << max(0, box.x))
         for y in range(max(0, box.y), min(len(self.rows), box.y + box.height)):
@@ -80,14 +81,14 @@ class CoilGround:
         """Takes the cells of coils and of the streets around them out, and no others."""
         self.rows = list(self.without_coils)
         for box in boxes:
-            self.take_box_and_street(box)
+            self.exclude_box_and_street(box)
 
-    def take_box_and_street(self, box: Box) -> None:
+    def exclude_box_and_street(self, box: Box) -> None:
         """Takes the cells of a coil and of the street around it out."""
-        self.take_box(Box(box.x - STREET_CELLS, box.y - STREET_CELLS, box.width + 2 * STREET_CELLS,
-                          box.height + 2 * STREET_CELLS))
+        self.exclude_box(Box(box.x - STREET_CELLS, box.y - STREET_CELLS, box.width + 2 * STREET_CELLS,
+                             box.height + 2 * STREET_CELLS))
 
-    def squares(self, side: int, y: int) -> "Squares":
+    def free_squares_near(self, side: int, y: int) -> "SquareCorners":
         """Returns the free squares of a side near a row."""
         top, bottom = max(0, y - MAX_ROWS_AWAY), min(len(self.rows), y + MAX_ROWS_AWAY)
         own = square_corners(self.rows[top:bottom], side)
@@ -100,27 +101,27 @@ class CoilGround:
         shift = top - PATH_STREET_CELLS - first
         rows = [row & (clear[index + shift] << PATH_STREET_CELLS if 0 <= index + shift < len(clear) else 0)
                 for index, row in enumerate(own)]
-        return Squares(side, top, rows)
+        return SquareCorners(side, top, rows)
 
 
 @dataclass(frozen=True)
-class Squares:
+class SquareCorners:
     """The upper left cells of squares, as bits of the rows from a row on."""
 
     side: int
     top: int
     rows: list[int]
 
-    def has(self, x: int, y: int) -> bool:
+    def has_corner_at(self, x: int, y: int) -> bool:
         """Whether a cell is one of them."""
         return x >= 0 and 0 <= y - self.top < len(self.rows) and self.rows[y - self.top] >> x & 1 == 1
 
     def tile_distances(self) -> "TileDistances":
         """Returns the distances of tiles to the middles of squares."""
-        half, tiles = self.side // 2, [0] * (ROW_STRIDE // TILE)
+        half, tiles = self.side // 2, [0] * (ROW_STRIDE // TILE_SIDE)
         for index, row in enumerate(self.rows):
             if row:
-                tiles[(self.top + index + half) // TILE] |= row << half
+                tiles[(self.top + index + half) // TILE_SIDE] |= row << half
         return TileDistances([tile_bits(row) for row in tiles])
 
 
@@ -139,14 +140,14 @@ class TileDistances:
         wide = [0, *(row | row << 1 | row >> 1 for row in self.levels[-1]), 0]
         self.levels.append([above | own | below for above, own, below in zip(wide, wide[1:], wide[2:])])
 
-    def steps_from(self, x: int, y: int) -> int:
+    def least_steps_from(self, x: int, y: int) -> int:
         """Returns the least steps from a cell to one of the tiles, about."""
-        column, row = tile = x // TILE, y // TILE
+        column, row = tile = x // TILE_SIDE, y // TILE_SIDE
         found = self.known.get(tile)
         if found is None:
-            while len(self.levels) < FARTHEST_TILES and not self.is_empty and not self.levels[-1][row] >> column & 1:
+            while len(self.levels) < MAX_TILE_DISTANCE and not self.is_empty and not self.levels[-1][row] >> column & 1:
                 self.add_level()
-            found = TILE * bisect.bisect_left(self.levels, True, key=lambda own: bool(own[row] >> column & 1))
+            found = TILE_SIDE * bisect.bisect_left(self.levels, True, key=lambda own: bool(own[row] >> column & 1))
             self.known[tile] = found
         return found
 
@@ -162,10 +163,10 @@ def tile_bits(row: int) -> int:
 
 def square_corners(rows: list[int], side: int) -> list[int]:
     """Returns the bits that are the upper left ones of squares of set bits."""
-    return column_starts(run_starts(rows, side), side)
+    return bit_column_starts(bit_run_starts(rows, side), side)
 
 
-def run_starts(rows: list[int], length: int) -> list[int]:
+def bit_run_starts(rows: list[int], length: int) -> list[int]:
     """Returns the bits that begin a run of set bits of a length in each row."""
     known = 1
     while known < length:
@@ -175,7 +176,7 @@ def run_starts(rows: list[int], length: int) -> list[int]:
     return rows
 
 
-def column_starts(rows: list[int], length: int) -> list[int]:
+def bit_column_starts(rows: list[int], length: int) -> list[int]:
     """Returns the bits that begin a column of set bits of a length, downwards."""
     known = 1
     while known < length:
@@ -202,19 +203,19 @@ class LegSpan(NamedTuple):
                    for number in one.mirrors for part in own.touched_parts)
 
 
-def span_of(item: Footprint, first: Ball, last: Ball) -> LegSpan:
+def leg_span_of(item: Footprint, first: Ball, last: Ball) -> LegSpan:
     """Returns what a leg takes that leads from a ball to another one."""
     return LegSpan(item, min(first.x, last.x) - LEG_SPAN_MARGIN, max(first.x, last.x) + LEG_SPAN_MARGIN,
                    min(first.y, last.y) - LEG_SPAN_MARGIN, max(first.y, last.y) + LEG_SPAN_MARGIN)
 
 
-class CoilBounce(NamedTuple):
+class SearchBounce(NamedTuple):
     """A bounce of a way that is being sought, after some steps of a leg, with the ball behind it. The first has no leg.
     """
 
     ball: Ball
     cost: float = 0.0
-    before: "CoilBounce | None" = None
+    before: "SearchBounce | None" = None
     leg: Leg = Leg(0, None)
     # What the legs take up to here, or up to the bounce before if it is not known yet.
     spans: tuple[LegSpan, ...] = ()
@@ -229,16 +230,16 @@ class CoilBounce(NamedTuple):
         return [*self.before.legs(), self.leg] if self.before else []
 
 
-class CoilOption(NamedTuple):
+class BounceOption(NamedTuple):
     """A bounce that may come next, after some steps behind another one. The one with the least rank is tried first, and
     of equal ones the one with the least number."""
 
     rank: float
     number: int
     cost: float
-    before: CoilBounce
+    before: SearchBounce
     steps: int
-    turn: Turn
+    turn: BounceKind
 
 
 def place_key(ball: Ball) -> tuple[int, int, int, int]:
@@ -257,14 +258,14 @@ class CoilSearch:
         self.finder, self.world, self.is_backward, self.end = finder, finder.world, is_backward, end
         # Whether the modules where a leg passes have room for its wire.
         self.has_room = has_room
-        self.first = CoilBounce(ball.time_reversed() if is_backward else ball)
-        self.width = width or least_width(end - self.first.ball.time)
-        self.squares = ground.squares(self.width + 1, ball.y)
+        self.first = SearchBounce(ball.time_reversed() if is_backward else ball)
+        self.width = width or least_coil_width(end - self.first.ball.time)
+        self.squares = ground.free_squares_near(self.width + 1, ball.y)
         self.distances = self.squares.tile_distances()
         # Nothing is added to the world before the search ends.
-        self.taken = BitJoiner(self.world, finder.chance, finder.settings).taken_columns
+        self.taken = BallJoiner(self.world, finder.chance, finder.settings).taken_column_bits
         self.seen = set[tuple[int, int, int, int]]()
-        self.queue = list[CoilOption]()
+        self.queue = list[BounceOption]()
         self.tried, self.count, self.most_bounces = 0, 0, MAX_TRIED_BOUNCES
 
     def coils_with_legs(self) -> Iterator[tuple[Coil, list[Leg]]]:
@@ -275,15 +276,15 @@ class CoilSearch:
                 inner = list(coil.legs(self.end - coil.entry.time))
                 yield coil, [*bend.legs(), Leg(ahead + inner[0].steps, inner[0].turn), *inner[1:]]
 
-    def ways(self) -> Iterator[list[Leg]]:
+    def ways_to_free_squares(self) -> Iterator[list[Leg]]:
         """Yields the legs of ways to the middles of free squares, in their order of time. They end or begin with a
         straight flight."""
         half = self.width // 2
         for bend, room in self.reached_bounces():
             for ahead in range(max(LEAST_STEPS_TO_COIL, bend.steps_to_new_track), room + 1, LEG_STRIDE):
-                ball = bend.ball.flown(ahead)
-                if self.squares.has(ball.x - half, ball.y - half) and self.can_go_on(ball):
-                    item = self.leg_item(bend, Leg(ahead, None))
+                ball = bend.ball.after_flight(ahead)
+                if self.squares.has_corner_at(ball.x - half, ball.y - half) and self.can_go_on(ball):
+                    item = self.leg_footprint(bend, Leg(ahead, None))
                     if item is not None and self.has_room(item):
                         legs = [*bend.legs(), Leg(ahead, None)]
                         yield reversed_legs(legs) if self.is_backward else legs
@@ -293,54 +294,55 @@ class CoilSearch:
         """Whether a ball on open ground can go on to where it is to come."""
         return True
 
-    def reached_bounces(self) -> Iterator[tuple[CoilBounce, int]]:
+    def reached_bounces(self) -> Iterator[tuple[SearchBounce, int]]:
         """Yields the bounces that the search comes to, and how far the ball can fly on straight."""
-        bend: CoilBounce | None = self.first if any(self.squares.rows) else None
+        bend: SearchBounce | None = self.first if any(self.squares.rows) else None
         while bend is not None and self.tried < self.most_bounces:
             self.seen.add(place_key(bend.ball))
             self.tried += 1
             room = self.straight_steps(bend)
             yield bend, room
-            for option in self.options_behind(bend, room):
+            for option in self.bounce_options_behind(bend, room):
                 heapq.heappush(self.queue, option)
             bend = self.pop_next_bounce()
 
-    def pop_next_bounce(self) -> CoilBounce | None:
+    def pop_next_bounce(self) -> SearchBounce | None:
         """Returns the next bounce at a place to which the search did not come yet, or None if there is none."""
         while self.queue:
             _, _, cost, before, steps, turn = heapq.heappop(self.queue)
-            ball = bounce(before.ball.flown(steps), turn)[0]
+            ball = ball_and_mirror_after_bounce(before.ball.after_flight(steps), turn)[0]
             is_new = place_key(ball) not in self.seen
             # One of some 80 bounces comes so far: a search took 1.5 times as long when all of them were looked at.
-            if is_new and self.world.free_steps(ball.flown(BOUNCE_STEPS), LEAST_STEPS_ON) >= LEAST_STEPS_ON:
-                bend = self.with_leg_item(CoilBounce(ball, cost, before, Leg(steps, turn), before.spans))
+            if is_new and self.world.free_steps(ball.after_flight(BOUNCE_STEPS),
+                                                LEAST_STEPS_AFTER_BOUNCE) >= LEAST_STEPS_AFTER_BOUNCE:
+                bend = self.with_leg_footprint(SearchBounce(ball, cost, before, Leg(steps, turn), before.spans))
                 if bend is not None:
                     return bend
         return None
 
-    def straight_steps(self, bend: CoilBounce) -> int:
+    def straight_steps(self, bend: SearchBounce) -> int:
         """Returns how many steps a ball can fly straight on."""
-        most = min(LONGEST_LEG, self.end - bend.ball.time)
+        most = min(MAX_LEG_STEPS, self.end - bend.ball.time)
         begun = bend.steps_to_new_track
-        return begun + self.world.free_steps(bend.ball.flown(begun), most - begun) if most > begun else 0
+        return begun + self.world.free_steps(bend.ball.after_flight(begun), most - begun) if most > begun else 0
 
-    def tried_leg_steps(self, bend: CoilBounce, room: int) -> list[int]:
+    def leg_steps_to_try(self, bend: SearchBounce, room: int) -> list[int]:
         """Returns the steps behind a bounce after which another one is tried."""
         chance, begun = self.finder.chance, bend.steps_to_new_track
-        stride = 1 if self.tried < EVERY_STEP_BOUNCES else LEG_STRIDE
+        stride = 1 if self.tried < BOUNCES_TRIED_AT_EVERY_STEP else LEG_STRIDE
         found = {*range(begun, room + 1, stride), *range(max(begun, room - 2), room + 1)}
         found |= {chance.randint(begun, room) for _ in range(4)} if room >= begun else set()
         latest = self.end - bend.ball.time - BOUNCE_STEPS
         return sorted(steps for steps in found if steps <= latest)
 
-    def options_behind(self, bend: CoilBounce, room: int) -> Iterator[CoilOption]:
+    def bounce_options_behind(self, bend: SearchBounce, room: int) -> Iterator[BounceOption]:
         """Yields the bounces that a ball can come to without another one. Behind them something may be in the way."""
         x, y, dx, dy, _ = bend.ball
         # The columns from the first one to the last one in which a mirror has no room, as bits.
         low = x if dx > 0 else x - room
         turns = [(turn, *behind, self.taken(bend.ball, turn, dx == dy) >> low & (1 << room + 1) - 1)
-                 for turn, behind in BALLS_BEHIND[dx, dy]]
-        for steps in self.tried_leg_steps(bend, room):
+                 for turn, behind in BALLS_BEHIND_BOUNCES[dx, dy]]
+        for steps in self.leg_steps_to_try(bend, room):
             column, row, cost = x + steps * dx, y + steps * dy, None
             # This runs most often: no more balls are made than needed.
             for turn, right, down, across, along, _, taken in turns:
@@ -351,48 +353,48 @@ class CoilSearch:
                 if cost is None:
                     cost = bend.cost + self.world.flight_cost(bend.ball, steps) + BOUNCE_COST
                 self.count += 1
-                yield CoilOption(cost + self.cost_left(i, j), self.count, cost, bend, steps, turn)
+                yield BounceOption(cost + self.cost_left(i, j), self.count, cost, bend, steps, turn)
 
     def cost_left(self, x: int, y: int) -> float:
         """Returns the cost of the way that is left from a cell, about."""
-        return COST_PER_CELL_LEFT * self.distances.steps_from(x, y)
+        return COST_PER_CELL_LEFT * self.distances.least_steps_from(x, y)
 
-    def with_leg_item(self, bend: CoilBounce) -> CoilBounce | None:
+    def with_leg_footprint(self, bend: SearchBounce) -> SearchBounce | None:
         """Returns a bounce with what the leg before it takes, or None if the leg meets something."""
         assert bend.before is not None
-        item = self.leg_item(bend.before, bend.leg)
+        item = self.leg_footprint(bend.before, bend.leg)
         if item is None:
             return None
-        span = span_of(item, bend.before.ball, bend.ball)
+        span = leg_span_of(item, bend.before.ball, bend.ball)
         if (any(span.has_conflict_with(own) for own in bend.spans) or not self.world.can_add(item)
                 or not self.has_room(item)):
             return None
         return bend._replace(spans=(*bend.spans, span))
 
-    def leg_item(self, bend: CoilBounce, leg: Leg) -> Footprint | None:
+    def leg_footprint(self, bend: SearchBounce, leg: Leg) -> Footprint | None:
         """Returns what a leg takes behind a bounce."""
         begun = min(bend.steps_to_new_track, leg.steps)
         if not self.is_backward:
-            return path_item(bend.ball, [leg], begun)
+            return path_footprint(bend.ball, [leg], begun)
         legs = reversed_legs([Leg(leg.steps - begun, leg.turn), Leg(BOUNCE_STEPS, None)])
-        goal = bend.ball.flown(begun).time_reversed()
-        return path_item(self.finder.start_of_legs(goal, legs), legs)
+        goal = bend.ball.after_flight(begun).time_reversed()
+        return path_footprint(self.finder.start_of_legs(goal, legs), legs)
 
-    def coils_ahead(self, bend: CoilBounce, room: int) -> Iterator[Coil]:
+    def coils_ahead(self, bend: SearchBounce, room: int) -> Iterator[Coil]:
         """Yields the first coils that have room on the straight way behind a bounce."""
-        ball, has = bend.ball, self.squares.has
-        if self.distances.steps_from(ball.x, ball.y) > room + self.width + TILE:
+        ball, has = bend.ball, self.squares.has_corner_at
+        if self.distances.least_steps_from(ball.x, ball.y) > room + self.width + TILE_SIDE:
             return
-        boxes = [coil.box for coil in coils_of(ball, self.width)]
+        boxes = [coil.box for coil in coils_entered_by(ball, self.width)]
         for ahead in range(LEAST_STEPS_TO_COIL, room + 1):
             right, down = ahead * ball.dx, ahead * ball.dy
             for index, box in enumerate(boxes):
                 if has(box.x + right, box.y + down):
-                    yield list(coils_of(ball.flown(ahead), self.width))[index]
+                    yield list(coils_entered_by(ball.after_flight(ahead), self.width))[index]
                     return
 
 
-class OpenSearch(CoilSearch):
+class OpenGroundSearch(CoilSearch):
     """A search for ways from a ball out of its part to open ground, from which it can come to a goal in time.
 
     If it is backward, the ball comes from the goal to its part.
@@ -406,12 +408,12 @@ class OpenSearch(CoilSearch):
 
     def can_go_on(self, ball: Ball) -> bool:
         """Whether a ball on open ground can come to the goal in time."""
-        return is_in_reach(ball, self.goal, OPEN_SPARE_STEPS)
+        return is_in_reach(ball, self.goal, OPEN_GROUND_SPARE_STEPS)
 
-    def options_behind(self, bend: CoilBounce, room: int) -> Iterator[CoilOption]:
+    def bounce_options_behind(self, bend: SearchBounce, room: int) -> Iterator[BounceOption]:
         """Yields the bounces that a ball can come to without another one, if the goal can be reached."""
-        if is_in_reach(bend.ball, self.goal, OPEN_SPARE_STEPS):
-            yield from super().options_behind(bend, room)
+        if is_in_reach(bend.ball, self.goal, OPEN_GROUND_SPARE_STEPS):
+            yield from super().bounce_options_behind(bend, room)
 
     def cost_left(self, x: int, y: int) -> float:
         """Returns the cost of the way that is left from a cell, about: to open ground, and then to the goal."""

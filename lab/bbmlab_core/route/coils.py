@@ -10,12 +10,12 @@ from dataclasses import dataclass
 from typing import Iterator
 
 from ..texts.layouts import Box
-from .balls import BOUNCE_STEPS, Ball, Leg, Turn, bounce
+from .balls import BOUNCE_STEPS, Ball, BounceKind, Leg, ball_and_mirror_after_bounce
 
 # Where the lead of a ball is in its coil: so many cells from the edges behind it.
-ENTRY = (8, 5)
+COIL_ENTRY_OFFSET = (8, 5)
 # The least columns of a coil.
-LEAST_WIDTH = 18
+LEAST_COIL_WIDTH = 18
 
 
 @dataclass(frozen=True)
@@ -32,22 +32,23 @@ class Coil:
             x, y, dx, dy, _ = ball
             across = self.box.x + self.box.width - 3 - x if dx > 0 else x - 2 - self.box.x
             down = self.box.y + self.box.height - 3 - y if dy > 0 else y - 2 - self.box.y
-            own, turn = (across, Turn.UPRIGHT) if across <= down else (down, Turn.FLAT)
+            own, turn = (across, BounceKind.UPRIGHT) if across <= down else (down, BounceKind.FLAT)
             if own < begun or own + BOUNCE_STEPS > left:
                 yield Leg(left, None)
                 return
             yield Leg(own, turn)
-            ball, left, begun = bounce(ball.flown(own), turn)[0], left - own, BOUNCE_STEPS
+            ball, left, begun = ball_and_mirror_after_bounce(ball.after_flight(own), turn)[0], left - own, BOUNCE_STEPS
 
 
-def least_width(steps: int) -> int:
+def least_coil_width(steps: int) -> int:
     """Returns the columns of the least coil for some steps."""
-    return max(LEAST_WIDTH, 7 + math.isqrt(max(0, steps + 33)) + 1)
+    return max(LEAST_COIL_WIDTH, 7 + math.isqrt(max(0, steps + 33)) + 1)
 
 
-def coils_of(ball: Ball, width: int) -> Iterator[Coil]:
+def coils_entered_by(ball: Ball, width: int) -> Iterator[Coil]:
     """Yields the two coils of some columns or rows of a ball that is at their entry."""
-    for (right, down), (columns, rows) in ((ENTRY, (width, width + 1)), (ENTRY[::-1], (width + 1, width))):
+    for (right, down), (columns, rows) in ((COIL_ENTRY_OFFSET, (width, width + 1)),
+                                           (COIL_ENTRY_OFFSET[::-1], (width + 1, width))):
         x = ball.x - right if ball.dx > 0 else ball.x + right - columns + 1
         y = ball.y - down if ball.dy > 0 else ball.y + down - rows + 1
         yield Coil(ball, Box(x, y, columns, rows))

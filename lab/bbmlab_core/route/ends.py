@@ -10,22 +10,22 @@ from typing import Callable
 
 from .balls import Ball, Leg
 from .board import FailureKind, NoRouteError, WaitingBall
-from .escapes import Escapes
+from .escapes import EscapeWiring
 from .paths import Path
 from .placement import Placer
-from .ripup import WayMaker
-from .world import path_item
+from .ripup import PathRipper
+from .world import path_footprint
 
 
 class EndWiring:
     """Leads the balls of a board to the last time. `most_size` is the side up to which the plane may grow."""
 
-    def __init__(self, placer: Placer, way_maker: WayMaker, escapes: Escapes, most_size: int,
-                 check_time: Callable[[], None]) -> None:
+    def __init__(self, placer: Placer, way_maker: PathRipper, escapes: EscapeWiring, most_size: int,
+                 require_time_left: Callable[[], None]) -> None:
         self.placer, self.way_maker, self.escapes = placer, way_maker, escapes
         self.board, self.settings = placer.board, placer.settings
         self.netlist, self.chance = self.board.netlist, placer.chance
-        self.most_size, self.check_time = most_size, check_time
+        self.most_size, self.require_time_left = most_size, require_time_left
         # These fields belong to one pass over all balls. For each ball that was led, how it waited before.
         self.before: dict[str, WaitingBall] = {}
         # The balls that were led first, since others would enclose them, and those that were led alone.
@@ -56,7 +56,7 @@ class EndWiring:
         self.make_room_for_ends()
         why = self.lead_all_once_or_say_why()
         for _ in range(self.settings.growths):
-            if why is None or self.has_no_way or not self.board.grow(self.settings.growth_divisor, self.most_size):
+            if why is None or self.has_no_way or not self.board.try_grow(self.settings.growth_divisor, self.most_size):
                 break
             why = self.lead_all_once_or_say_why()
         return why
@@ -68,7 +68,7 @@ class EndWiring:
         steps = sum(end - (waiting.ball.time if waiting.ball else 0) for waiting in board.waiting.values())
         taken = sum(row.bit_count() for row in board.world.blocked) + self.settings.step_cells * steps
         while (taken > self.settings.end_fill_share * board.width * board.height
-               and board.grow(self.settings.growth_divisor, self.most_size)):
+               and board.try_grow(self.settings.growth_divisor, self.most_size)):
             pass
 
     def lead_all_once_or_say_why(self) -> str | None:
@@ -84,7 +84,7 @@ class EndWiring:
         self.left, self.has_no_way = self.settings.end_rips, False
         self.placer.stuck.clear()
         while queue:
-            self.check_time()
+            self.require_time_left()
             root = queue.pop(0)
             if not self.lead_to_end(root, end) and not self.requeue_before_others(queue, root, end):
                 self.placer.blame.clear()
@@ -102,7 +102,7 @@ class EndWiring:
             self.ways_made[root] += 1
             path = self.add_path_making_way(root, waiting.ball, end)
         if path is None:
-            self.board.add_waiting(root, self.before.pop(root))
+            self.board.add_waiting_ball(root, self.before.pop(root))
             return False
         self.board.ends.append(path)
         return True
@@ -121,17 +121,17 @@ class EndWiring:
         if self.left > 0 and self.put_enclosed_first(queue, root):
             self.left -= 1
             return True
-        crossing = self.end_paths_across(self.board.waiting[root].ball)
+        crossing = self.end_paths_crossing_way_of(self.board.waiting[root].ball)
         self.left -= 1 + len(crossing)
         if not crossing and root not in self.led_alone:
             self.led_alone.add(root)
-            return self.lead_alone(queue, root, end)
+            return self.lead_displacing_others(queue, root, end)
         if self.left <= 0 or not crossing or not self.take_ends_back(crossing):
             return False
         queue[:] = [root, *queue, *(other.wire for other in crossing)]
         return True
 
-    def lead_alone(self, queue: list[str], root: str, end: int) -> bool:
+    def lead_displacing_others(self, queue: list[str], root: str, end: int) -> bool:
         """Leads a ball as if no other one was led, and then lets those wait again that are in its way; returns whether
         that was possible. If there is no way for it, a larger plane does not help."""
         board, paths = self.board, list(self.board.ends)
@@ -140,7 +140,7 @@ class EndWiring:
         board.ends.clear()
         self.has_no_way = not self.lead_to_end(root, end)
         for path in paths:
-            if board.world.can_add(path.item) and board.has_room_for(path.wire, path.item.tiles):
+            if board.world.can_add(path.item) and board.has_wire_room_for(path.wire, path.item.tiles):
                 board.add_path(path)
                 board.ends.append(path)
             elif not self.let_wait_again(path.wire):
@@ -190,13 +190,13 @@ class EndWiring:
             if not self.board.wait_again(root, waiting):
                 raise NoRouteError(f"the ball of wire {root} has no room to wait", FailureKind.ROOM)
 
-    def end_paths_across(self, ball: Ball | None) -> list[Path]:
+    def end_paths_crossing_way_of(self, ball: Ball | None) -> list[Path]:
         """Returns the paths to the last time that cross or touch the straight way of a ball that waits."""
         if ball is None:
             return []
         room = self.board.world.free_steps(ball, 70) + 6
-        way = path_item(ball, [Leg(room, None)])
-        touched = way.touched if way else set()
+        way = path_footprint(ball, [Leg(room, None)])
+        touched = way.touched_cells if way else set()
         return [path for path in self.board.ends
                 if not touched.isdisjoint(chain(path.item.mirrors, *path.item.touched_parts))]
 
@@ -215,24 +215,24 @@ class EndWiring:
             return coiled
         self.placer.enclosed = ""
         for _ in range(self.settings.end_tries if ball else 5 * self.settings.end_tries):
-            path = finder.lead_on_from(root, ball or self.random_start(), end, stays=True)
+            path = finder.path_to_anywhere(root, ball or self.random_start(), end, stays=True)
             if path is None:
                 continue
-            if not board.has_room_for(root, path.item.tiles):
+            if not board.has_wire_room_for(root, path.item.tiles):
                 board.world.remove(path.item)
                 continue
             board.add_path(path, is_there=True)
             if self.placer.can_others_turn([(mirror.x, mirror.y) for mirror in path.mirrors()]):
                 return path
             board.remove_path(path)
-            self.placer.note_stuck()
+            self.placer.note_stuck_ball()
         return None
 
     def add_path_making_way(self, root: str, ball: Ball | None, end: int) -> Path | None:
         """Adds a path from a waiting ball to the last time for which paths to gates make way, and returns it."""
         if ball is None or self.placer.enclosed:
             return None
-        return self.way_maker.lead_through(ball, lambda: self.add_end_path(root, ball, end))
+        return self.way_maker.lead_by_ripping(ball, lambda: self.add_end_path(root, ball, end))
 
     def random_start(self) -> Ball:
         """Returns a ball at time 0 at a random place."""

@@ -26,7 +26,7 @@ MEASURED_CIRCUITS = (MeasuredCircuits(12, 40, 40, 1), MeasuredCircuits(42, 40, 4
 
 
 @dataclass(frozen=True)
-class Estimate:
+class RouteEstimate:
     """The gates, levels and ends of a circuit, and the side that is tried first. An end is a ball at the last time."""
 
     gates: int
@@ -51,7 +51,7 @@ def counted_noun(count: int, noun: str) -> str:
     return f"{count} {noun}{'' if count == 1 else 's'}"
 
 
-def estimate_of(netlist: RouterNetlist, side: int) -> Estimate:
+def estimate_of(netlist: RouterNetlist, side: int) -> RouteEstimate:
     """Returns the estimate for a circuit that is tried first with a side."""
     levels: dict[str, int] = {}
     for gate in netlist.circuit.gates:
@@ -59,4 +59,4 @@ def estimate_of(netlist: RouterNetlist, side: int) -> Estimate:
         level = max((levels.get(wire, 0) for wire in gate.ins), default=0) + own
         levels.update((wire, level) for wire in gate.outs)
     ends = [wire for wire in (*netlist.circuit.outputs, *netlist.circuit.spills) if not netlist.has_no_ball(wire)]
-    return Estimate(len(netlist.gates), max(levels.values(), default=0), len(ends), side)
+    return RouteEstimate(len(netlist.gates), max(levels.values(), default=0), len(ends), side)

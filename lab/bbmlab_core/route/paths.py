@@ -9,23 +9,24 @@ from dataclasses import dataclass
 from itertools import islice
 from typing import Callable, Iterator, NamedTuple, Sequence
 
-from .balls import BOUNCE_STEPS, Ball, Leg, Mirror, Turn, bounce, bounce_before, follow_legs
-from .bit_rows import Bend, BitJoiner
-from .settings import Settings
-from .world import MARGIN_CELLS, Footprint, LaidItem, World, path_item
+from .balls import (BOUNCE_STEPS, Ball, BounceKind, Leg, Mirror, ball_and_mirror_after_bounce,
+                    ball_and_mirror_before_bounce, follow_legs)
+from .bit_rows import BallJoiner, Bend
+from .settings import RouterSettings
+from .world import MARGIN_CELLS, Footprint, LaidFootprint, RoutingGrid, path_footprint
 
 # A leg leads on for at least this many steps, if the path goes on so long.
-LEAST_LEG = 12
+LEAST_LEG_STEPS = 12
 # A wander ends with this many steps more than the way to its goal needs at least.
 WANDER_SPARE_STEPS = 30
 # A way behind an open end goes on for the first number of steps after its bounce, and the second number of steps is
 # free when it is found. The straight way is kept free for the third number of steps behind the bounce.
 STEPS_PAST_OPEN_BOUNCE = 24
-OPEN_FREE_STEPS = 40
+FREE_STEPS_PAST_OPEN_BOUNCE = 40
 STRAIGHT_STEPS_PAST_BOUNCE = 4
-NO_ITEM = Footprint(frozenset())
+NO_FOOTPRINT = Footprint(frozenset())
 # A path without a return has at most this many steps to spare.
-MAX_STAIR_SPARE = 24
+MAX_STAIR_SPARE_STEPS = 24
 
 
 @dataclass(frozen=True, eq=False)
@@ -51,9 +52,9 @@ def joined_path(parts: list[Path]) -> Path:
     return Path(parts[0].wire, parts[0].start, parts[-1].end, tuple(legs), Footprint(frozenset()))
 
 
-def combined_item(item: Footprint, way: Footprint) -> Footprint:
+def combined_footprint(item: Footprint, way: Footprint) -> Footprint:
     """Returns what a path takes with the straight way at its open end."""
-    if way is NO_ITEM:
+    if way is NO_FOOTPRINT:
         return item
     touched = (*item.touched_parts, *way.touched_parts)
     return Footprint(item.mirrors | way.mirrors, touched, (*item.claim_parts, *way.claim_parts))
@@ -64,14 +65,14 @@ class WanderOption(NamedTuple):
 
     cost: float
     steps: int
-    turn: Turn
+    turn: BounceKind
 
 
 class OuterBounce(NamedTuple):
     """A bounce after or before some steps, with the ball on its other side; or no bounce."""
 
     steps: int
-    turn: Turn | None
+    turn: BounceKind | None
     ball: Ball
 
 
@@ -85,45 +86,45 @@ class Trail:
     begun last is cleared first. A trail that goes backward moves the reversed ball.
     """
 
-    def __init__(self, world: World, ball: Ball, is_backward: bool = False) -> None:
+    def __init__(self, world: RoutingGrid, ball: Ball, is_backward: bool = False) -> None:
         self.world, self.is_backward = world, is_backward
         self.ball = ball.time_reversed() if is_backward else ball
         self.begun = BOUNCE_STEPS if is_backward else 0
-        self.steps: list[tuple[int, Turn | None, Ball, int, LaidItem]] = []
+        self.steps: list[tuple[int, BounceKind | None, Ball, int, LaidFootprint]] = []
 
-    def after_bounce(self, ball: Ball, turn: Turn) -> tuple[Ball, Mirror]:
+    def ball_and_mirror_after_bounce(self, ball: Ball, turn: BounceKind) -> tuple[Ball, Mirror]:
         """Returns the ball after a bounce, and its mirror."""
         if not self.is_backward:
-            return bounce(ball, turn)
-        before, mirror = bounce_before(ball.time_reversed(), turn)
+            return ball_and_mirror_after_bounce(ball, turn)
+        before, mirror = ball_and_mirror_before_bounce(ball.time_reversed(), turn)
         return before.time_reversed(), mirror
 
     def free_steps(self, most: int) -> int:
         """Returns how many steps, at most `most`, the ball can fly straight on."""
         begun = 0 if self.is_backward else self.begun
-        return begun + self.world.free_steps(self.ball.flown(begun), most - begun) if most > begun else 0
+        return begun + self.world.free_steps(self.ball.after_flight(begun), most - begun) if most > begun else 0
 
-    def push_leg(self, steps: int, turn: Turn | None) -> bool:
+    def push_leg(self, steps: int, turn: BounceKind | None) -> bool:
         """Adds a leg and its bounce if they meet nothing."""
         if steps < self.begun and turn is not None or steps < 0:
             return False
-        ball = self.ball.flown(steps)
-        after = self.after_bounce(ball, turn)[0] if turn else ball
+        ball = self.ball.after_flight(steps)
+        after = self.ball_and_mirror_after_bounce(ball, turn)[0] if turn else ball
         if self.is_backward:
             first = after.time_reversed()
-            item = path_item(first, [Leg(0, turn), Leg(steps, None)] if turn else [Leg(steps, None)])
+            item = path_footprint(first, [Leg(0, turn), Leg(steps, None)] if turn else [Leg(steps, None)])
         else:
-            item = path_item(self.ball, [Leg(steps, turn)], min(self.begun, steps))
+            item = path_footprint(self.ball, [Leg(steps, turn)], min(self.begun, steps))
         if item is None or not self.world.can_add(item):
             return False
-        self.steps.append((steps, turn, self.ball, self.begun, self.world.lay(item)))
+        self.steps.append((steps, turn, self.ball, self.begun, self.world.lay_temporarily(item)))
         self.ball, self.begun = after, BOUNCE_STEPS
         return True
 
     def pop_leg(self) -> None:
         """Takes the last leg away."""
         _, _, self.ball, self.begun, laid = self.steps.pop()
-        self.world.lift(laid)
+        self.world.lift_last_laid(laid)
 
     def clear_legs(self) -> None:
         """Takes all legs away."""
@@ -144,16 +145,16 @@ class Trail:
 class PathFinder:
     """Finds paths in a world. Its choices come from `chance` alone."""
 
-    def __init__(self, world: World, chance: random.Random, settings: Settings) -> None:
+    def __init__(self, world: RoutingGrid, chance: random.Random, settings: RouterSettings) -> None:
         self.world, self.chance, self.settings = world, chance, settings
         # The departures of waiting balls, while one gate is placed. What a place adds to the world is looked at later.
         self.known_departures: dict[tuple[Ball, int], dict[Direction, list[OuterBounce]]] = {}
         # What may raise an exception when the time is over.
-        self.check_time: Callable[[], None] = lambda: None
+        self.require_time_left: Callable[[], None] = lambda: None
 
     # --- free ends ----------------------------------------------------------------------------------------------------
 
-    def lead_on_from(self, wire: str, ball: Ball, end: int, stays: bool = False) -> Path | None:
+    def path_to_anywhere(self, wire: str, ball: Ball, end: int, stays: bool = False) -> Path | None:
         """Returns a path from a ball to any place at the time `end`.
 
         If it stays, its item is in the world.
@@ -162,15 +163,15 @@ class PathFinder:
         found = self.wander(trail, end)
         legs, last = trail.legs(), trail.ball
         trail.clear_legs()
-        item = path_item(ball, legs) if found and stays else None
+        item = path_footprint(ball, legs) if found and stays else None
         if item is not None:
             self.world.add(item)
             most = self.settings.open_end_steps
             way = self.open_way_footprint(last, 1, most)
             # A ball that begins anywhere has an open start too.
-            start = self.open_way_footprint(ball, -1, most) if ball.time == 0 else NO_ITEM
+            start = self.open_way_footprint(ball, -1, most) if ball.time == 0 else NO_FOOTPRINT
             if way is not None and start is not None:
-                item = combined_item(combined_item(item, way), start)
+                item = combined_footprint(combined_footprint(item, way), start)
                 self.world.add(way)
                 self.world.add(start)
                 return Path(wire, ball, last, tuple(legs), item)
@@ -185,7 +186,7 @@ class PathFinder:
         trail.clear_legs()
         path = self.path_of_legs(wire, first, goal, legs) if found else None
         way = self.open_way_footprint(first, -1, self.settings.open_end_steps, path.item) if path else None
-        return Path(wire, first, goal, path.legs, combined_item(path.item, way)) if path and way else None
+        return Path(wire, first, goal, path.legs, combined_footprint(path.item, way)) if path and way else None
 
     def open_way_footprint(self, ball: Ball, sign: int, most: int, own: Footprint | None = None) -> Footprint | None:
         """Returns what a way on with one bounce takes behind the end of a path, or before its start if `sign` is -1.
@@ -194,16 +195,16 @@ class PathFinder:
         something is in the way, `own` included.
         """
         if not most:
-            return NO_ITEM
+            return NO_FOOTPRINT
         for legs in self.legs_past_bounce(ball, sign, most):
-            way = path_item(ball if sign > 0 else self.start_of_legs(ball, legs), legs)
+            way = path_footprint(ball if sign > 0 else self.start_of_legs(ball, legs), legs)
             # A few steps of the straight way keep mirrors so far away that a search sees the bounce.
             steps = STRAIGHT_STEPS_PAST_BOUNCE + (legs[0] if sign > 0 else legs[-1]).steps
-            straight = path_item(ball if sign > 0 else ball.flown(-steps), [Leg(steps, None)])
+            straight = path_footprint(ball if sign > 0 else ball.after_flight(-steps), [Leg(steps, None)])
             if way is None or straight is None or not self.world.can_add(way) or not self.world.can_add(straight):
                 continue
-            found = combined_item(way, straight)
-            if own is None or own.mirrors.isdisjoint(found.touched) and way.mirrors.isdisjoint(own.touched):
+            found = combined_footprint(way, straight)
+            if own is None or own.mirrors.isdisjoint(found.touched_cells) and way.mirrors.isdisjoint(own.touched_cells):
                 return found
         return None
 
@@ -221,11 +222,13 @@ class PathFinder:
             yield [Leg(room - STRAIGHT_STEPS_PAST_BOUNCE, None)]
         most = self.world.free_steps(ball if sign > 0 else ball.time_reversed(), most)
         for steps in range(0 if sign > 0 else BOUNCE_STEPS, most + 1):
-            at = ball.flown(sign * steps)
-            for turn in Turn:
-                after, mirror = bounce(at, turn) if sign > 0 else bounce_before(at, turn)
-                clear = after.flown(BOUNCE_STEPS) if sign > 0 else after.time_reversed()
-                if self.world.can_hold(mirror) and self.world.free_steps(clear, OPEN_FREE_STEPS) >= OPEN_FREE_STEPS:
+            at = ball.after_flight(sign * steps)
+            for turn in BounceKind:
+                after, mirror = (ball_and_mirror_after_bounce(at, turn) if sign > 0
+                                 else ball_and_mirror_before_bounce(at, turn))
+                clear = after.after_flight(BOUNCE_STEPS) if sign > 0 else after.time_reversed()
+                if (self.world.has_room_for_mirror(mirror)
+                        and self.world.free_steps(clear, FREE_STEPS_PAST_OPEN_BOUNCE) >= FREE_STEPS_PAST_OPEN_BOUNCE):
                     ends = [Leg(steps, turn), Leg(STEPS_PAST_OPEN_BOUNCE, None)], [Leg(STEPS_PAST_OPEN_BOUNCE, turn),
                                                                                    Leg(steps, None)]
                     yield ends[sign < 0]
@@ -233,12 +236,12 @@ class PathFinder:
     def start_of_legs(self, ball: Ball, legs: list[Leg]) -> Ball:
         """Returns the ball from which legs lead to a ball."""
         for leg in reversed(legs):
-            ball = (bounce_before(ball, leg.turn)[0] if leg.turn else ball).flown(-leg.steps)
+            ball = (ball_and_mirror_before_bounce(ball, leg.turn)[0] if leg.turn else ball).after_flight(-leg.steps)
         return ball
 
     def path_of_legs(self, wire: str, start: Ball, end: Ball, legs: list[Leg]) -> Path | None:
         """Returns the path of these legs if it meets nothing, itself included."""
-        item = path_item(start, legs)
+        item = path_footprint(start, legs)
         if item is None or not self.world.can_add(item):
             return None
         return Path(wire, start, end, tuple(legs), item)
@@ -247,7 +250,7 @@ class PathFinder:
         """Leads a trail on up to a time, so that it takes few new cells; with a goal, it can still come to this ball.
         """
         ways: list[Iterator[WanderOption]] = []
-        self.check_time()
+        self.require_time_left()
         for _ in range(self.settings.wander_tries + (end - trail.ball.time) // self.settings.steps_per_wander_try):
             left = end - trail.ball.time
             if left == 0 and not trail.steps or self.can_end(trail, left, goal) and trail.push_leg(left, None):
@@ -269,7 +272,7 @@ class PathFinder:
         """Whether a trail can fly straight on to its end, with enough time to come to a goal from there."""
         if left < trail.begun or trail.free_steps(left) < left:
             return False
-        return goal is None or self.can_reach(trail.ball.flown(left), goal)
+        return goal is None or self.can_reach(trail.ball.after_flight(left), goal)
 
     def can_reach(self, ball: Ball, goal: Ball) -> bool:
         """Whether a wandering ball can come to a goal with steps to spare, more of them if it is far away."""
@@ -286,15 +289,15 @@ class PathFinder:
             return found
         for index in range(settings.wander_option_count):
             steps = room - index if index < 3 and room - index >= least else chance.randint(least, room)
-            at = trail.ball.flown(steps)
-            for turn in Turn:
-                after, mirror = trail.after_bounce(at, turn)
+            at = trail.ball.after_flight(steps)
+            for turn in BounceKind:
+                after, mirror = trail.ball_and_mirror_after_bounce(at, turn)
                 rest = left - steps
-                if rest < BOUNCE_STEPS or not world.can_hold(mirror):
+                if rest < BOUNCE_STEPS or not world.has_room_for_mirror(mirror):
                     continue
-                clear = after.flown(BOUNCE_STEPS)
+                clear = after.after_flight(BOUNCE_STEPS)
                 on = BOUNCE_STEPS + world.free_steps(clear, min(60, rest - BOUNCE_STEPS))
-                if on < min(LEAST_LEG, rest) or goal and not self.can_reach(after, goal):
+                if on < min(LEAST_LEG_STEPS, rest) or goal and not self.can_reach(after, goal):
                     continue
                 new = world.flight_cost(trail.ball, steps) + world.flight_cost(clear, on - BOUNCE_STEPS)
                 cost = (new + settings.mirror_cost) / (steps + on) + chance.random() * 0.5
@@ -356,18 +359,18 @@ class PathFinder:
         total = goal.time - start.time
         if total < 0 or not is_in_reach(start, goal):
             return None
-        if start.flown(total) == goal:
+        if start.after_flight(total) == goal:
             straight = [Leg(total, None)]
             if self.is_free_path(start, straight):
                 return straight
         if total - max(abs(start.x - goal.x), abs(start.y - goal.y)) >= self.settings.bits_spare:
-            return next((legs for legs in self.bit_join_legs(start, goal) if self.is_free_path(start, legs)), None)
-        return self.random_join(start, goal, tries)
+            return next((legs for legs in self.legs_by_bit_rows(start, goal) if self.is_free_path(start, legs)), None)
+        return self.random_joining_legs(start, goal, tries)
 
-    def bit_join_legs(self, start: Ball, goal: Ball) -> Iterator[list[Leg]]:
+    def legs_by_bit_rows(self, start: Ball, goal: Ball) -> Iterator[list[Leg]]:
         """Yields legs from a ball to a ball by rows of bits: with four bounces, and with one or two more before or
         behind these."""
-        joiner, settings = BitJoiner(self.world, self.chance, self.settings), self.settings
+        joiner, settings = BallJoiner(self.world, self.chance, self.settings), self.settings
         is_parallel = start.dx * start.dy == goal.dx * goal.dy
         yield from joiner.joining_legs(start, goal, 0, 3 * settings.bit_ends)
         firsts = list(islice(joiner.first_bends(start, 0), settings.bit_bends))
@@ -380,7 +383,7 @@ class PathFinder:
                     for legs in joiner.joining_legs(first.ball, end, BOUNCE_STEPS, settings.bit_ends):
                         yield [Leg(first.steps, first.turn), *(legs_past_bend(legs, last) if last else legs)]
 
-    def random_join(self, start: Ball, goal: Ball, tries: int) -> list[Leg] | None:
+    def random_joining_legs(self, start: Ball, goal: Ball, tries: int) -> list[Leg] | None:
         """Returns legs from a ball to a ball.
 
         The first and the last bounce are chosen where mirrors have room. The two bounces between follow from place and
@@ -388,52 +391,53 @@ class PathFinder:
         """
         total = goal.time - start.time
         key = start, total // 32
-        first, last = self.known_departures.get(key) or self.departures(start, total), self.approaches(goal, total)
+        first = self.known_departures.get(key) or self.first_bounces_by_direction(start, total)
+        last = self.last_bounces_by_direction(goal, total)
         self.known_departures[key] = first
         spare = total - max(abs(start.x - goal.x), abs(start.y - goal.y))
-        returns = (True, True, True, False) if spare <= MAX_STAIR_SPARE else (True,)
+        returns = (True, True, True, False) if spare <= MAX_STAIR_SPARE_STEPS else (True,)
         joins = [(before, after, is_return) for way, before in first.items() for is_return in returns
                  for after in [last.get((-way[0], -way[1]) if is_return else way)] if after]
         for _ in range(tries if joins else 0):
             firsts, lasts, is_return = joins[int(self.chance.random() * len(joins))]
             before, after = firsts[int(self.chance.random() * len(firsts))], lasts[
                 int(self.chance.random() * len(lasts))]
-            legs = self.legs_through(before, after, is_return)
+            legs = self.legs_between_bounces(before, after, is_return)
             if legs and self.is_free_path(start, legs):
                 return legs
         return None
 
-    def departures(self, ball: Ball, total: int) -> dict[Direction, list[OuterBounce]]:
+    def first_bounces_by_direction(self, ball: Ball, total: int) -> dict[Direction, list[OuterBounce]]:
         """Returns by direction the beginnings of a path: none, and first bounces for which a mirror has room."""
         found = {(ball.dx, ball.dy): [OuterBounce(0, None, ball)]}
         room = self.world.free_steps(ball, min(self.settings.longest_leg, total))
-        for steps in self.some_steps(0, room):
-            at = ball.flown(steps)
-            for turn in Turn:
-                after, mirror = bounce(at, turn)
-                if self.world.can_hold(mirror):
+        for steps in self.sampled_step_counts(0, room):
+            at = ball.after_flight(steps)
+            for turn in BounceKind:
+                after, mirror = ball_and_mirror_after_bounce(at, turn)
+                if self.world.has_room_for_mirror(mirror):
                     found.setdefault((after.dx, after.dy), []).append(OuterBounce(steps, turn, after))
         return found
 
-    def approaches(self, goal: Ball, total: int) -> dict[Direction, list[OuterBounce]]:
+    def last_bounces_by_direction(self, goal: Ball, total: int) -> dict[Direction, list[OuterBounce]]:
         """Returns by direction the ends of a path: none, and last bounces for which a mirror has room."""
         found, back = {(goal.dx, goal.dy): [OuterBounce(0, None, goal)]}, goal.time_reversed()
         room = self.world.free_steps(back, min(self.settings.longest_leg, total))
-        for steps in self.some_steps(BOUNCE_STEPS, room):
-            at = goal.flown(-steps)
-            for turn in Turn:
-                before, mirror = bounce_before(at, turn)
-                if self.world.can_hold(mirror):
+        for steps in self.sampled_step_counts(BOUNCE_STEPS, room):
+            at = goal.after_flight(-steps)
+            for turn in BounceKind:
+                before, mirror = ball_and_mirror_before_bounce(at, turn)
+                if self.world.has_room_for_mirror(mirror):
                     found.setdefault((before.dx, before.dy), []).append(OuterBounce(steps, turn, before))
         return found
 
-    def some_steps(self, least: int, most: int) -> Sequence[int]:
+    def sampled_step_counts(self, least: int, most: int) -> Sequence[int]:
         """Returns numbers of steps from `least` to `most`: all, or some at random if they are many."""
         count = self.settings.bounce_places
         return range(least,
                      most + 1) if most - least < count else sorted(self.chance.sample(range(least, most + 1), count))
 
-    def legs_through(self, before: OuterBounce, after: OuterBounce, is_return: bool) -> list[Leg] | None:
+    def legs_between_bounces(self, before: OuterBounce, after: OuterBounce, is_return: bool) -> list[Leg] | None:
         """Returns legs that begin and end with given bounces, if two bounces between them can join them."""
         begun = BOUNCE_STEPS if before.turn else 0
         rest = middle_legs(before.ball, after.ball, begun, is_return, self.chance.random())
@@ -444,19 +448,19 @@ class PathFinder:
 
     def is_free_path(self, start: Ball, legs: list[Leg]) -> bool:
         """Whether a path meets nothing, itself included."""
-        item = path_item(start, legs)
+        item = path_footprint(start, legs)
         return item is not None and self.world.can_add(item)
 
     def has_room_for_legs(self, ball: Ball, legs: list[Leg], begun: int) -> bool:
         """Whether no mirror is in the way of legs, and each of their mirrors has room."""
         world = self.world
         for steps, turn in legs:
-            if world.free_steps(ball.flown(begun), steps - begun) < steps - begun:
+            if world.free_steps(ball.after_flight(begun), steps - begun) < steps - begun:
                 return False
-            ball = ball.flown(steps)
+            ball = ball.after_flight(steps)
             if turn is not None:
-                ball, mirror = bounce(ball, turn)
-                if not world.can_hold(mirror):
+                ball, mirror = ball_and_mirror_after_bounce(ball, turn)
+                if not world.has_room_for_mirror(mirror):
                     return False
             begun = BOUNCE_STEPS
         return True
@@ -476,15 +480,16 @@ def middle_legs(ball: Ball, goal: Ball, begun: int, is_return: bool, share: floa
     """
     x, y, dx, dy, time = ball
     total = goal.time - time
-    for turn in Turn:
+    for turn in BounceKind:
         if is_return:
-            # The places of a ball after two bounces at one place, less its place before: see `bounce`.
+            # The places of a ball after two bounces at one place, less its place before: see
+            # `ball_and_mirror_after_bounce`.
             u, v = (goal.x - x) * dx, (goal.y - y) * dy
-            u, v = (u + 1, v - 3) if turn is Turn.FLAT else (u - 3, v + 1)
+            u, v = (u + 1, v - 3) if turn is BounceKind.FLAT else (u - 3, v + 1)
         else:
             u, v = (goal.x - x) * dx, (goal.y - y) * dy
-            u, v = (u + 4, v) if turn is Turn.FLAT else (u, v + 4)
-        along, across = (u + v) // 2, (u - v) // 2 if turn is Turn.FLAT else (v - u) // 2
+            u, v = (u + 4, v) if turn is BounceKind.FLAT else (u, v + 4)
+        along, across = (u + v) // 2, (u - v) // 2 if turn is BounceKind.FLAT else (v - u) // 2
         if across < BOUNCE_STEPS or (u + v) % 2:
             continue
         if is_return:

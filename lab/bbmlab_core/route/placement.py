@@ -11,26 +11,26 @@ from typing import Iterable, Iterator
 
 from ..texts.circuits import Gate
 from ..texts.layouts import Cell
-from .balls import BOUNCE_STEPS, Ball, Leg, Turn, bounce
+from .balls import BOUNCE_STEPS, Ball, BounceKind, Leg, ball_and_mirror_after_bounce
 from .board import Board, Placement, WaitingBall, gate_tile_box, tiles_in
 from .cells import GATE_PORTS, GateCell
 from .paths import Path, PathFinder
-from .settings import Settings
-from .world import HALF_SQUARE_SIDE, MARGIN_CELLS, ROW_STRIDE, TILE, Footprint, path_item
+from .settings import RouterSettings
+from .world import HALF_SQUARE_SIDE, MARGIN_CELLS, ROW_STRIDE, TILE_SIDE, Footprint, path_footprint
 
 # Largest side of a box in tiles: boxes have at most 64 by 64 cells.
-MOST_SIDE_TILES = 4
+MAX_BOX_SIDE_TILES = 4
 # A waiting ball is looked at again if something new is nearer than this many columns and rows.
 NEAR_DISTANCE = 100
-# The cells of the square in which `World.taken_count_around` counts.
-FULL_SQUARE_CELLS = (2 * HALF_SQUARE_SIDE) ** 2
+# The cells of the square in which `RoutingGrid.taken_count_around` counts.
+COUNTED_SQUARE_CELLS = (2 * HALF_SQUARE_SIDE) ** 2
 # The most steps to spare for the last input of a gate, however often inputs could not be led.
-MOST_SPARE = 130
+MAX_SPARE_STEPS = 130
 EVEN_BITS = sum(1 << index for index in range(0, ROW_STRIDE, 2))
 
 
 @dataclass(frozen=True)
-class Spot:
+class GateSpot:
     """A place and a time for a cell."""
 
     cell: GateCell
@@ -55,7 +55,7 @@ class Placer:
 
     def __init__(self, board: Board, chance: random.Random) -> None:
         self.board, self.chance = board, chance
-        self.settings: Settings = board.settings
+        self.settings: RouterSettings = board.settings
         self.finder = PathFinder(board.world, chance, board.settings)
         # Why tries failed, since the last call of `find_placement`; and for each wire how often no path was found.
         self.reasons: Counter[str] = Counter()
@@ -71,36 +71,37 @@ class Placer:
         # The estimated time at which all gates are done.
         self.horizon = 0
 
-    def inlets(self, gate: Gate) -> list[Inlet]:
+    def inlets_of_gate(self, gate: Gate) -> list[Inlet]:
         """Returns the inputs of a gate that have a ball."""
         netlist, found = self.board.netlist, []
         for port, wire in zip(GATE_PORTS[gate.kind][0], gate.ins):
             if not netlist.has_no_ball(wire):
-                root = netlist.root(wire)
+                root = netlist.root_wire_of(wire)
                 found.append(Inlet(port, root, self.board.waiting[root].ball, netlist.least_delay_steps(wire)))
         return found
 
-    def find_placement(self, gate: Gate, spots: Iterable[Spot] | None = None) -> Placement | None:
+    def find_placement(self, gate: Gate, spots: Iterable[GateSpot] | None = None) -> Placement | None:
         """Returns the first way to place a gate, at any spots or at given ones, or None. Nothing is added yet."""
         self.reasons.clear()
         self.blame.clear()
         self.stuck.clear()
         self.finder.known_departures.clear()
         netlist = self.board.netlist
-        inlets = self.inlets(gate)
-        self.least_time = max([self.update_late_begun(inlets), *(netlist.least_delay_steps(wire) for wire in gate.ins
-                                                                 if netlist.has_no_ball(wire))])
+        inlets = self.inlets_of_gate(gate)
+        self.least_time = max([self.note_earliest_late_time(inlets),
+                               *(netlist.least_delay_steps(wire) for wire in gate.ins
+                                 if netlist.has_no_ball(wire))])
         for spot in self.best_spots(gate, inlets) if spots is None else spots:
             self.reasons["tries"] += 1
-            step = self.try_spot(gate, spot, inlets)
+            step = self.placement_at_spot(gate, spot, inlets)
             if step is not None:
                 return step
-            self.note_stuck()
+            self.note_stuck_ball()
             if max(self.blame.values(), default=0) > self.settings.most_blame:
                 break
         return None
 
-    def update_late_begun(self, inlets: list[Inlet]) -> int:
+    def note_earliest_late_time(self, inlets: list[Inlet]) -> int:
         """Returns the earliest time for a gate with some inputs: a late one comes after all balls that wait for it, and
         not before the first late one."""
         netlist = self.board.netlist
@@ -113,27 +114,27 @@ class Placer:
 
     # --- where and when -----------------------------------------------------------------------------------------------
 
-    def best_spots(self, gate: Gate, inlets: list[Inlet]) -> Iterator[Spot]:
+    def best_spots(self, gate: Gate, inlets: list[Inlet]) -> Iterator[GateSpot]:
         """Yields the best of some random spots for a gate, and so on: early ones, with few taken cells around them."""
         settings = self.settings
-        batch: list[tuple[float, int, Spot]] = []
+        batch: list[tuple[float, int, GateSpot]] = []
         for index, spot in enumerate(self.random_spots(gate, inlets)):
             left, top, right, bottom = spot.cell.bounds
             taken = self.board.world.taken_count_around(spot.x + (left + right) // 2, spot.y + (top + bottom) // 2)
-            batch.append((spot.time + spot.cell.step_count + settings.full_square_delay * taken / FULL_SQUARE_CELLS,
+            batch.append((spot.time + spot.cell.step_count + settings.full_square_delay * taken / COUNTED_SQUARE_CELLS,
                           index, spot))
             if len(batch) == settings.spot_batch:
                 yield from (own for _, _, own in sorted(batch, key=lambda own: own[:2])[:settings.best_spots])
                 batch.clear()
         yield from (own for _, _, own in batch)
 
-    def random_spots(self, gate: Gate, inlets: list[Inlet], is_crowded: bool = False) -> Iterator[Spot]:
+    def random_spots(self, gate: Gate, inlets: list[Inlet], is_crowded: bool = False) -> Iterator[GateSpot]:
         """Yields places and times for a gate, at which its mirrors have room and its box is free.
 
         If `is_crowded`, paths may be where its mirrors are.
         """
         chance, tries = self.chance, self.settings.place_tries
-        cells, partner = self.board.netlist.cells(gate), self.partner_ball(gate, inlets)
+        cells, partner = self.board.netlist.gate_cells_for(gate), self.partner_ball(gate, inlets)
         for index in range(tries):
             cell, growth = cells[chance.randrange(len(cells))], min(1.0, index / self.settings.widening_tries)
             left, top, right, bottom = cell.bounds
@@ -153,12 +154,13 @@ class Placer:
             time = self.earliest_time(cell, column, row, inlets)
             if partner:
                 time = max(time, partner.time - cell.step_count)
-            time += chance.randint(self.settings.least_spare, self.pick_most_spare())
-            yield Spot(cell, column, row, time + (time - column) % 2)
+            time += chance.randint(self.settings.least_spare, self.random_spare_step_limit())
+            yield GateSpot(cell, column, row, time + (time - column) % 2)
 
-    def pick_most_spare(self) -> int:
+    def random_spare_step_limit(self) -> int:
         """Returns the most steps to spare for the last input of a gate: more if inputs could not be led."""
-        return min(MOST_SPARE, self.chance.choice(self.settings.most_spare) + 3 * max(self.blame.values(), default=0))
+        return min(MAX_SPARE_STEPS,
+                   self.chance.choice(self.settings.most_spare) + 3 * max(self.blame.values(), default=0))
 
     def partner_ball(self, gate: Gate, inlets: list[Inlet]) -> Ball | None:
         """Returns the ball that a gate's results wait for or meet later, if the gate's own inputs may all begin
@@ -167,7 +169,7 @@ class Placer:
         if any(inlet.ball for inlet in inlets):
             return None
         consumers = [netlist.consumer[wire] for wire in gate.outs if wire in netlist.consumer]
-        others = [waiting.get(netlist.root(wire)) for consumer in consumers for wire in consumer.ins]
+        others = [waiting.get(netlist.root_wire_of(wire)) for consumer in consumers for wire in consumer.ins]
         balls = [own.ball for own in others if own and own.ball]
         return max(balls, key=lambda ball: ball.time) if balls else None
 
@@ -183,7 +185,7 @@ class Placer:
                     chance.randrange(half, max(half + 1, height - half)), 60)
         radius = half + chance.choice((20, 40 + int(60 * growth), 80 + int(100 * growth), 120 + int(140 * growth)))
         last = max(balls, key=lambda ball: ball.time)
-        ahead = last.flown(chance.randint(half, half + 20 + int(60 * growth)))
+        ahead = last.after_flight(chance.randint(half, half + 20 + int(60 * growth)))
         x, y = ahead.x, ahead.y
         if len(balls) > 1 and chance.random() < 0.4:
             other = balls[chance.randrange(len(balls))]
@@ -217,8 +219,8 @@ class Placer:
         """Whether the box of a cell is small enough, inside the layout, and no other gate's; if `is_wide`, with a tile
         around it."""
         column, row, columns, rows = gate_tile_box(cell, x, y)
-        if (columns > MOST_SIDE_TILES or rows > MOST_SIDE_TILES or column < 0 or row < 0
-            or column + columns > self.board.width // TILE or row + rows > self.board.height // TILE):
+        if (columns > MAX_BOX_SIDE_TILES or rows > MAX_BOX_SIDE_TILES or column < 0 or row < 0
+            or column + columns > self.board.width // TILE_SIDE or row + rows > self.board.height // TILE_SIDE):
             return False
         owners, margin = self.board.owners, 1 if is_wide else 0
         around = (column - margin, row - margin, columns + 2 * margin, rows + 2 * margin)
@@ -256,32 +258,32 @@ class Placer:
 
     # --- trying a spot ------------------------------------------------------------------------------------------------
 
-    def try_spot(self, gate: Gate, spot: Spot, inlets: list[Inlet]) -> Placement | None:
+    def placement_at_spot(self, gate: Gate, spot: GateSpot, inlets: list[Inlet]) -> Placement | None:
         """Returns the step that places a gate at a spot, or None if something is in the way. The board stays as it is.
         """
         board, world = self.board, self.board.world
-        placed, self.enclosed = board.placed_gate(spot.x, spot.y, spot.time, spot.cell, gate.number), ""
+        placed, self.enclosed = board.make_placed_gate(spot.x, spot.y, spot.time, spot.cell, gate.number), ""
         if not world.can_add(placed.item):
             self.reasons["in the way"] += 1
             return None
-        if not board.has_box_room(placed.box, [gate.number], board.gate_wires(placed), 2):
+        if not board.has_wire_room_in_box(placed.box, [gate.number], board.gate_wires(placed), 2):
             self.reasons["cuts"] += 1
             return None
         board.add_gate(placed)
         step = Placement(placed, [])
-        done = (self.reserve_outs(step, gate) and self.can_others_turn([(placed.x, placed.y)])
+        done = (self.reserve_outputs(step, gate) and self.can_others_turn([(placed.x, placed.y)])
                 and self.lead_inputs(step, inlets) and self.can_all_turn(step))
         for path in step.paths:
             board.remove_path(path)
         for own in step.outs.values():
             world.remove(reserved_footprint(own))
         for root, waiting in step.waiting_before.items():
-            board.add_waiting(root, waiting)
+            board.add_waiting_ball(root, waiting)
         step.waiting_before = {}
         board.remove_gate(placed)
         return step if done else None
 
-    def reserve_outs(self, step: Placement, gate: Gate) -> bool:
+    def reserve_outputs(self, step: Placement, gate: Gate) -> bool:
         """Lets a gate's outputs wait, if their ways out are free."""
         for port, wire in zip(GATE_PORTS[gate.kind][1], gate.outs):
             if self.board.netlist.has_no_ball(wire):
@@ -294,19 +296,19 @@ class Placer:
             step.outs[wire] = waiting
         return True
 
-    def way_in_item(self, ball: Ball) -> Footprint | None:
+    def way_in_footprint(self, ball: Ball) -> Footprint | None:
         """Returns what the last steps of a straight way into a port take, or None if they meet something."""
-        before = ball.flown(-6)
+        before = ball.after_flight(-6)
         if before.time < 0 or not self.board.world.is_inside(before.x, before.y):
             return None
-        item = path_item(before, [Leg(6, None)])
+        item = path_footprint(before, [Leg(6, None)])
         return item if item and self.board.world.can_add(item) else None
 
     def lead_inputs(self, step: Placement, inlets: list[Inlet]) -> bool:
         """Leads the inputs to a gate: first those that failed most often, and then those that come last."""
         world = self.board.world
         order = sorted(inlets, key=lambda inlet: (-self.blame[inlet.root], -inlet.ball.time if inlet.ball else 1))
-        ways = {inlet.root: self.way_in_item(step.gate.input_ball(inlet.port)) for inlet in order}
+        ways = {inlet.root: self.way_in_footprint(step.gate.input_ball(inlet.port)) for inlet in order}
         kept = {root: item for root, item in ways.items() if item}
         for item in kept.values():
             world.add(item)
@@ -329,11 +331,11 @@ class Placer:
             path = self.finder.path_from_anywhere(inlet.root, goal)
         else:
             path = self.finder.find_path(inlet.root, waiting.ball, goal, self.settings.path_tries)
-        if path and not board.has_room_for(inlet.root, path.item.tiles):
+        if path and not board.has_wire_room_for(inlet.root, path.item.tiles):
             self.reasons["cuts of a path"] += 1
             path = None
         if path is None:
-            board.add_waiting(inlet.root, waiting)
+            board.add_waiting_ball(inlet.root, waiting)
             self.reasons["no path"] += 1
             self.blame[inlet.root] += 1
             return False
@@ -362,7 +364,7 @@ class Placer:
         self.enclosed = next((root for root in near if not self.can_turn(waiting[root])), "")
         return not self.enclosed
 
-    def note_stuck(self) -> None:
+    def note_stuck_ball(self) -> None:
         """Notes the ball that something would have enclosed, if it cannot turn without that either."""
         own = self.board.waiting.get(self.enclosed)
         if own and own.ball and not self.can_turn(own):
@@ -383,26 +385,26 @@ class Placer:
                 _, path, parked = min(found, key=lambda own: own[0])
                 board.park_output(step, path, parked)
             else:
-                board.add_waiting(wire, waiting)
+                board.add_waiting_ball(wire, waiting)
 
     def parking_path(self, wire: str, ball: Ball, end: int) -> tuple[int, Path, WaitingBall] | None:
         """Returns a path away from a gate and the ball that waits at its end, with the number of taken cells around
         this place."""
         board = self.board
-        path = self.finder.lead_on_from(wire, ball, end)
-        if path is None or not board.has_room_for(wire, path.item.tiles):
+        path = self.finder.path_to_anywhere(wire, ball, end)
+        if path is None or not board.has_wire_room_for(wire, path.item.tiles):
             return None
         board.add_path(path)
         waiting = board.new_waiting_ball(path.end)
         is_good = waiting is not None and self.can_others_turn([(mirror.x, mirror.y) for mirror in path.mirrors()])
         if waiting is not None and is_good:
-            board.add_waiting(wire, waiting)
+            board.add_waiting_ball(wire, waiting)
             is_good = self.can_turn(waiting)
             board.stop_waiting(wire)
         board.remove_path(path)
         if waiting is None or not is_good:
             return None
-        far = path.end.flown(self.settings.reserved_steps[-1])
+        far = path.end.after_flight(self.settings.reserved_steps[-1])
         return board.world.taken_count_around(far.x, far.y), path, waiting
 
     def estimated_end(self, step: Placement) -> int:
@@ -417,23 +419,23 @@ class Placer:
         """Whether a waiting ball has enough places ahead at which it can turn."""
         world, ball, reserved = self.board.world, required_ball(waiting), reserved_footprint(waiting)
         room, least = world.free_steps(ball, 70), self.settings.escapes
-        found = self.turn_count(ball, range(self.settings.reserved_steps[0] + 3, room + 1, 3), least)
+        found = self.possible_turn_count(ball, range(self.settings.reserved_steps[0] + 3, room + 1, 3), least)
         if found < least:
             world.remove(reserved)
-            found += self.turn_count(ball, range(0, min(room, self.settings.reserved_steps[0] + 2) + 1, 2),
-                                     least - found)
+            found += self.possible_turn_count(ball, range(0, min(room, self.settings.reserved_steps[0] + 2) + 1, 2),
+                                              least - found)
             world.add(reserved)
         return found >= least
 
-    def turn_count(self, ball: Ball, places: range, most: int) -> int:
+    def possible_turn_count(self, ball: Ball, places: range, most: int) -> int:
         """Returns how many mirrors, at most about `most`, have room after some numbers of steps, with a free way behind
         them."""
         world, found = self.board.world, 0
         for steps in places:
-            at = ball.flown(steps)
-            for turn in Turn:
-                after, mirror = bounce(at, turn)
-                if world.can_hold(mirror) and world.free_steps(after.flown(BOUNCE_STEPS), 20) >= 17:
+            at = ball.after_flight(steps)
+            for turn in BounceKind:
+                after, mirror = ball_and_mirror_after_bounce(at, turn)
+                if world.has_room_for_mirror(mirror) and world.free_steps(after.after_flight(BOUNCE_STEPS), 20) >= 17:
                     found += 1
             if found >= most:
                 break

@@ -8,21 +8,21 @@ from itertools import chain
 from typing import Callable, Iterable, Iterator
 
 from ..texts.circuits import Gate
-from .balls import Ball, Leg, Turn, bounce
+from .balls import Ball, BounceKind, Leg, ball_and_mirror_after_bounce
 from .board import Board, WaitingBall
 from .paths import Path
-from .placement import Inlet, Placer, Spot
-from .world import ROW_STRIDE, Footprint, cell_item, cell_number, cell_of_number, path_item
+from .placement import GateSpot, Inlet, Placer
+from .world import ROW_STRIDE, Footprint, cell_number, cell_of_number, gate_cell_footprint, path_footprint
 
 # The steps ahead of a ball in which it should find places to turn, and the distance of the places that are looked at.
-STEPS_AHEAD = 70
-STEPS_BETWEEN_PLACES = 4
+TURNING_STEPS_AHEAD = 70
+STEPS_BETWEEN_TRIED_TURNS = 4
 # The owner of what is not taken out, and the owners of a cell that nothing is on.
-FIXED = -1
+FIXED_OWNER = -1
 NO_OWNERS: frozenset[int] = frozenset()
 
 
-class WayMaker:
+class PathRipper:
     """Makes way for gates on a board."""
 
     def __init__(self, board: Board, placer: Placer) -> None:
@@ -37,12 +37,12 @@ class WayMaker:
         placer = self.placer
         reasons, blame = placer.reasons.copy(), placer.blame.copy()
         for paths, spots in self.rip_candidates(gate):
-            if paths and self.place_without(gate, paths, spots):
+            if paths and self.place_without_paths(gate, paths, spots):
                 return True
         placer.reasons, placer.blame = reasons, blame
         return False
 
-    def rip_candidates(self, gate: Gate) -> Iterator[tuple[list[Path], list[Spot] | None]]:
+    def rip_candidates(self, gate: Gate) -> Iterator[tuple[list[Path], list[GateSpot] | None]]:
         """Yields paths to take out, and the spots that they leave or None if any spot may be tried."""
         placer, waiting = self.placer, self.board.waiting
         blamed = [own.ball for root, _ in placer.blame.most_common(2) for own in [waiting.get(root)] if own
@@ -53,7 +53,7 @@ class WayMaker:
             for count in self.settings.rip_counts:
                 yield found[:count], None
         if is_crowded:
-            yield from self.spots_on_paths(gate, placer.inlets(gate))
+            yield from self.spots_on_paths(gate, placer.inlets_of_gate(gate))
 
     def paths_to_gates(self) -> list[Path]:
         """Returns the paths to gates."""
@@ -61,30 +61,30 @@ class WayMaker:
 
     def paths_meeting(self, place: Footprint) -> list[Path]:
         """Returns the paths that an item would meet in space, those that it meets most first."""
-        found, touched = [], place.touched
+        found, touched = [], place.touched_cells
         for index, path in enumerate(self.paths_to_gates()):
             item = path.item
-            meets = len(item.touched & place.mirrors) + 4 * len(touched
-                                                                & item.mirrors) + len(place.mirrors & item.mirrors)
+            meets = (len(item.touched_cells & place.mirrors) + 4 * len(touched & item.mirrors)
+                     + len(place.mirrors & item.mirrors))
             if meets:
                 found.append((-meets, index, path))
         return [path for _, _, path in sorted(found, key=lambda own: own[:2])]
 
     def turning_footprint(self, ball: Ball) -> Footprint:
         """Returns what a waiting ball's way ahead takes, with mirrors at many places of it."""
-        room = min(STEPS_AHEAD, self.board.world.steps_to_margin(ball))
-        mirrors = [bounce(ball.flown(steps), turn)[1] for steps in range(2, max(3, room), STEPS_BETWEEN_PLACES)
-                   for turn in Turn]
-        way = path_item(ball, [Leg(max(0, room), None)])
+        room = min(TURNING_STEPS_AHEAD, self.board.world.steps_to_margin(ball))
+        mirrors = [ball_and_mirror_after_bounce(ball.after_flight(steps), turn)[1]
+                   for steps in range(2, max(3, room), STEPS_BETWEEN_TRIED_TURNS) for turn in BounceKind]
+        way = path_footprint(ball, [Leg(max(0, room), None)])
         cells = {cell_number(cell) for mirror in mirrors for cell in mirror.cells()}
         return Footprint(frozenset(cells), way.touched_parts if way else ())
 
-    def spots_on_paths(self, gate: Gate, inlets: list[Inlet]) -> Iterator[tuple[list[Path], list[Spot]]]:
+    def spots_on_paths(self, gate: Gate, inlets: list[Inlet]) -> Iterator[tuple[list[Path], list[GateSpot]]]:
         """Yields spots for a gate at which only paths are in the way, with these paths: the fewest first."""
         spots = list(self.placer.random_spots(gate, inlets, is_crowded=True))
-        items = [cell_item(spot.cell, spot.x, spot.y, spot.time) for spot in spots]
+        items = [gate_cell_footprint(spot.cell, spot.x, spot.y, spot.time) for spot in spots]
         paths, found = self.paths_to_gates(), []
-        register = NearbyPaths(items, paths, self.fixed_items())
+        register = NearbyPaths(items, paths, self.fixed_footprints())
         for index, (spot, item) in enumerate(zip(spots, items)):
             met = register.path_numbers_met_by(item)
             if met is not None and len(met) <= self.settings.rip_counts[-1]:
@@ -93,13 +93,13 @@ class WayMaker:
         for _, _, spot, met_paths in sorted(found, key=lambda own: own[:2])[:self.settings.crowded_choices]:
             yield met_paths, [replace(spot, time=spot.time + 2 * more) for more in range(0, 24, 2)]
 
-    def fixed_items(self) -> list[Footprint]:
+    def fixed_footprints(self) -> list[Footprint]:
         """Returns what is not taken out for a gate: gates, parked paths, and what is reserved for waiting balls."""
         steps = self.board.steps
         fixed = [own.gate.item for own in steps] + [path.item for own in steps for path in own.parking_paths]
         return fixed + [own.item for own in self.board.waiting.values() if own.item]
 
-    def place_without(self, gate: Gate, paths: list[Path], spots: list[Spot] | None) -> bool:
+    def place_without_paths(self, gate: Gate, paths: list[Path], spots: list[GateSpot] | None) -> bool:
         """Places a gate while some paths are out, and leads them again; returns whether that was possible."""
         board = self.board
         for path in paths:
@@ -107,16 +107,16 @@ class WayMaker:
         step = self.placer.find_placement(gate, spots)
         if step is not None:
             board.add_placement(step)
-            again = self.lead_again(list(step.outs.values()), paths)
+            again = self.lead_paths_again(list(step.outs.values()), paths)
             if again is not None:
-                self.exchange_paths(again)
+                self.replace_step_paths(again)
                 return True
-            board.take_back()
+            board.take_last_gate_back()
         for path in paths:
             board.add_path(path)
         return False
 
-    def lead_through(self, ball: Ball, lead: Callable[[], Path | None]) -> Path | None:
+    def lead_by_ripping(self, ball: Ball, lead: Callable[[], Path | None]) -> Path | None:
         """Returns a path that was led and added while paths to gates on the way of its ball were out, which are led
         again; or None.
 
@@ -128,9 +128,9 @@ class WayMaker:
             for path in paths:
                 self.board.remove_path(path)
             new = lead()
-            again = self.lead_again([], paths) if new else None
+            again = self.lead_paths_again([], paths) if new else None
             if again is not None:
-                self.exchange_paths(again)
+                self.replace_step_paths(again)
                 return new
             if new:
                 self.board.remove_path(new)
@@ -138,7 +138,7 @@ class WayMaker:
                 self.board.add_path(path)
         return None
 
-    def lead_again(self, outs: list[WaitingBall], paths: Iterable[Path]) -> dict[Path, Path] | None:
+    def lead_paths_again(self, outs: list[WaitingBall], paths: Iterable[Path]) -> dict[Path, Path] | None:
         """Adds paths from and to the same balls as some that were taken out, or None if this is not possible.
 
         `outs` can still turn then.
@@ -163,12 +163,12 @@ class WayMaker:
     def find_path_again(self, path: Path) -> Path | None:
         """Returns a path between the ends of another one: this path if it, and the boxes' wires, have room."""
         board, finder = self.board, self.placer.finder
-        if board.world.can_add(path.item) and board.has_room_for(path.wire, path.item.tiles):
+        if board.world.can_add(path.item) and board.has_wire_room_for(path.wire, path.item.tiles):
             return path
         for _ in range(self.settings.end_tries):
             new = finder.path_from_anywhere(path.wire, path.end) if self.may_begin_anywhere(path) else \
                 finder.find_path(path.wire, path.start, path.end, self.settings.path_tries)
-            if new and board.has_room_for(new.wire, new.item.tiles):
+            if new and board.has_wire_room_for(new.wire, new.item.tiles):
                 return new
         return None
 
@@ -177,7 +177,7 @@ class WayMaker:
         owner = next(step for step in self.board.steps if path in step.paths)
         return owner.waiting_before[path.wire].ball is None
 
-    def exchange_paths(self, again: dict[Path, Path]) -> None:
+    def replace_step_paths(self, again: dict[Path, Path]) -> None:
         """Gives the steps their new paths. Steps that an earlier board has stay as they are."""
         steps = self.board.steps
         for index, step in enumerate(steps):
@@ -196,7 +196,7 @@ class NearbyPaths:
         # is fixed.
         self.touched: dict[int, set[int]] = {}
         self.mirrors: dict[int, set[int]] = {}
-        for number, item in [*((FIXED, item) for item in fixed),
+        for number, item in [*((FIXED_OWNER, item) for item in fixed),
                              *((number, path.item) for number, path in enumerate(paths))]:
             self.note_owner(self.touched, chain(*item.touched_parts), number)
             self.note_owner(self.mirrors, item.mirrors, number)
@@ -215,4 +215,4 @@ class NearbyPaths:
             met |= self.touched.get(cell, NO_OWNERS) | self.mirrors.get(cell, NO_OWNERS)
         for cell in chain(*item.touched_parts):
             met |= self.mirrors.get(cell, NO_OWNERS)
-        return None if FIXED in met else met
+        return None if FIXED_OWNER in met else met

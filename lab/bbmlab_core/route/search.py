@@ -15,20 +15,20 @@ from multiprocessing.connection import Connection, wait
 from multiprocessing.process import BaseProcess
 from typing import Callable, Iterator
 
-from ..host.signals import Stopped
+from ..host.signals import StoppedBySignal
 from ..texts.circuits import Circuit
-from ..texts.limits import SECOND_LIMITS, limits_for, with_limits_line
+from ..texts.limits import SECOND_LIMITS, smallest_fitting_limits, text_with_limits_line
 from .attempt import Attempt, OutOfTimeError
 from .board import FailureKind, NoRouteError, Placement
 from .certificate import BundleMaker, bundle_text, circuit_section
 from .crowding import Crowding, crowding_of
-from .design import Design, cropped_design
-from .estimate import Estimate, estimate_of
+from .design import RoutedDesign, cropped_design
+from .estimate import RouteEstimate, estimate_of
 from .netlist import RouterNetlist
-from .partial import (EFFORT_SHARE, INTERRUPT_SECONDS, LEAST_SECONDS, PartialRoute, hurried_design, partial_design,
-                      circuit_section_text)
-from .settings import Settings
-from .world import TILE
+from .partial import (PARTIAL_EFFORT_SHARE, INTERRUPT_SECONDS, LEAST_PARTIAL_SECONDS, PartialRoute, hurried_design,
+                      partial_design, circuit_section_text)
+from .settings import RouterSettings
+from .world import TILE_SIDE
 
 # The least side of a layout that is tried, and the attempts with a side before a larger one is tried.
 LEAST_SIDE = 96
@@ -48,7 +48,7 @@ MAX_SHALLOW_STEPS = 200
 COMPACT_AREA_SHARES = (*(0.8,) * 3, *(0.9,) * 6)
 # How often paths to the last time make way for others in a part that is kept: fewer gates are tried sooner. With 30 in
 # place of 150, 53 of 60 placed gates were kept in eight seconds, and not 46.
-PARTIAL_RIPS = 30
+MAX_PARTIAL_END_RIPS = 30
 
 
 @dataclass(frozen=True)
@@ -118,14 +118,14 @@ def estimated_side(netlist: RouterNetlist) -> int:
     """Returns a side of a layout in which a circuit has room, by an estimate of what its balls touch."""
     area = 0.0
     for gate in netlist.gates:
-        left, top, right, bottom = netlist.cells(gate)[0].bounds
+        left, top, right, bottom = netlist.gate_cells_for(gate)[0].bounds
         area += (right - left + 12) * (bottom - top + 12)
     steps = max(netlist.tails.values(), default=0)
-    balls = max(len(netlist.free_roots()), len(netlist.circuit.outputs) + len(netlist.circuit.spills))
+    balls = max(len(netlist.roots_starting_anywhere()), len(netlist.circuit.outputs) + len(netlist.circuit.spills))
     area += balls * (steps + 16) * CELLS_PER_STEP
     side = LEAST_SIDE
     while side < SECOND_LIMITS.max_side and side * side * FILL_SHARE < area:
-        side += 2 * TILE
+        side += 2 * TILE_SIDE
     return side
 
 
@@ -137,7 +137,8 @@ def netlists_of(circuit: Circuit, options: SearchOptions) -> list[RouterNetlist]
     alone, and only they have late inputs.
     """
     forward, backward = RouterNetlist(circuit, late=options.late), RouterNetlist(circuit, is_backward=True)
-    if options.late or len(backward.free_roots()) - len(forward.free_roots()) <= MOST_EXTRA_ENDS:
+    extra = len(backward.roots_starting_anywhere()) - len(forward.roots_starting_anywhere())
+    if options.late or extra <= MOST_EXTRA_ENDS:
         return [forward]
     is_shallow = max(forward.tails.values(), default=0) <= MAX_SHALLOW_STEPS
     return [backward, forward] if is_shallow and not options.keeps_partial else [forward, backward]
@@ -152,10 +153,10 @@ class AttemptPlan:
     side: int
     most_side: int
     seed: int
-    settings: Settings
+    settings: RouterSettings
     height: int | None = None
 
-    def attempt(self, deadline: float) -> Attempt:
+    def new_attempt(self, deadline: float) -> Attempt:
         """Returns the attempt."""
         return Attempt(self.netlist, self.side, self.seed, self.settings, deadline, self.most_side, self.height)
 
@@ -165,7 +166,8 @@ def attempt_seed(options: SearchOptions, index: int) -> int:
     return options.seed * 1_000_003 + index
 
 
-def plans_of(netlists: list[RouterNetlist], options: SearchOptions, settings: Settings) -> Iterator[AttemptPlan]:
+def attempt_plans(netlists: list[RouterNetlist], options: SearchOptions,
+                  settings: RouterSettings) -> Iterator[AttemptPlan]:
     """Yields what attempts are made with, in their order, without end."""
     side, index = options.side or estimated_side(netlists[0]), 0
     while True:
@@ -173,21 +175,22 @@ def plans_of(netlists: list[RouterNetlist], options: SearchOptions, settings: Se
             netlist, seed = netlists[index % len(netlists)], attempt_seed(options, index)
             yield AttemptPlan(netlist, side, options.most_side, seed, settings)
             index += 1
-        side = side if options.side else min(SECOND_LIMITS.max_side, side + max(2 * TILE, side // 4 // TILE * TILE))
+        side = side if options.side else min(SECOND_LIMITS.max_side,
+                                             side + max(2 * TILE_SIDE, side // 4 // TILE_SIDE * TILE_SIDE))
 
 
-def smaller_plane(width: int, height: int, part: float) -> tuple[int, int]:
+def smaller_plane_sides(width: int, height: int, part: float) -> tuple[int, int]:
     """Returns the longer and the shorter side of a plane that has at most a part of the area of a layout.
 
     Tiles are taken off the longer side.
     """
     most = part * width * height
     while width * height > most:
-        height, width = sorted((max(width, height) - TILE, min(width, height)))
+        height, width = sorted((max(width, height) - TILE_SIDE, min(width, height)))
     return width, height
 
 
-def compact_settings(settings: Settings) -> Settings:
+def compact_settings(settings: RouterSettings) -> RouterSettings:
     """Returns the costs of attempts on smaller planes.
 
     They are given up after fewer failures, each after fewer places. Gates may be ahead of waiting balls, fewer of whose
@@ -198,18 +201,18 @@ def compact_settings(settings: Settings) -> Settings:
                    least_parking=SECOND_LIMITS.max_steps)
 
 
-def compact_plans(netlist: RouterNetlist, options: SearchOptions, settings: Settings, routed: RoutedBundle,
+def compact_plans(netlist: RouterNetlist, options: SearchOptions, settings: RouterSettings, routed: RoutedBundle,
                   first: int) -> Iterator[AttemptPlan]:
     """Yields what attempts on smaller planes than a layout are made with; `first` is the number of the first of them.
     """
     tight = compact_settings(settings)
     for index, part in enumerate(COMPACT_AREA_SHARES, first):
-        width, height = smaller_plane(routed.width, routed.height, part)
+        width, height = smaller_plane_sides(routed.width, routed.height, part)
         if height >= LEAST_SIDE // 2:
             yield AttemptPlan(netlist, width, width, attempt_seed(options, index), tight, height)
 
 
-def routed_bundle(circuit_text: str, design: Design, is_cropped: bool = True) -> RoutedBundle:
+def routed_bundle(circuit_text: str, design: RoutedDesign, is_cropped: bool = True) -> RoutedBundle:
     """Returns the bundle of a design, cropped if that is asked for; raises NoRouteError if its certificate needs too
     much.
 
@@ -225,22 +228,23 @@ def routed_bundle(circuit_text: str, design: Design, is_cropped: bool = True) ->
     return uncropped_bundle(circuit_text, design)
 
 
-def uncropped_bundle(circuit_text: str, design: Design) -> RoutedBundle:
+def uncropped_bundle(circuit_text: str, design: RoutedDesign) -> RoutedBundle:
     """Returns the bundle of a design as it is."""
     certifier, circuit = BundleMaker(design), design.circuit
     text, gates, wires = bundle_text(circuit_text, certifier), len(circuit.gates), len(circuit.wires)
     layout = circuit_section(circuit_text) + "\n".join(certifier.layout) + "\n"
     side = max(design.width, design.height)
-    return RoutedBundle(with_limits_line(text, limits_for(side, design.end, len(certifier.modules), gates, wires)),
-                        with_limits_line(layout, limits_for(side, design.end, 0, gates, wires)), design.width,
-                        design.height, design.end, len(certifier.mirrors), len(certifier.modules), certifier.most_cuts,
-                        len(design.gates))
+    limits = smallest_fitting_limits(side, design.end, len(certifier.modules), gates, wires)
+    return RoutedBundle(text_with_limits_line(text, limits),
+                        text_with_limits_line(layout, smallest_fitting_limits(side, design.end, 0, gates, wires)),
+                        design.width, design.height, design.end, len(certifier.mirrors), len(certifier.modules),
+                        certifier.most_cuts, len(design.gates))
 
 
-class Search:
+class RouterSearch:
     """A search for a route of one circuit."""
 
-    def __init__(self, circuit: Circuit, circuit_text: str, options: SearchOptions, settings: Settings,
+    def __init__(self, circuit: Circuit, circuit_text: str, options: SearchOptions, settings: RouterSettings,
                  progress: ProgressCallback) -> None:
         self.circuit_text, self.options = circuit_text, options
         self.netlists = netlists_of(circuit, options)
@@ -249,34 +253,35 @@ class Search:
         self.deadline = time.monotonic() + options.effort_seconds
         self.outcome = SearchOutcome(total=len(self.netlists[0].gates))
 
-    def estimate(self) -> Estimate:
+    def route_estimate(self) -> RouteEstimate:
         """Returns what is known before the search begins."""
         return estimate_of(self.netlists[0], self.options.side or estimated_side(self.netlists[0]))
 
     def run(self) -> SearchOutcome:
         """Returns what the search found. An interrupt ends it with the best part so far."""
         try:
-            found = self.find_attempt(plans_of(self.netlists, self.options, self.settings), 0)
+            found = self.find_succeeding_attempt(attempt_plans(self.netlists, self.options, self.settings), 0)
             while found is not None and self.outcome.routed and self.options.is_compact and not self.options.side:
                 plans = compact_plans(self.netlists[0], self.options, self.settings, self.outcome.routed, found + 1)
-                found = self.find_attempt(plans, found + 1)
+                found = self.find_succeeding_attempt(plans, found + 1)
         except KeyboardInterrupt as interrupt:
             self.outcome.is_interrupted = True
-            self.outcome.interrupt_status = interrupt.status if isinstance(interrupt,
-                                                                           Stopped) else self.outcome.interrupt_status
+            if isinstance(interrupt, StoppedBySignal):
+                self.outcome.interrupt_status = interrupt.status
         return self.outcome
 
-    def find_attempt(self, plans: Iterator[AttemptPlan], first: int) -> int | None:
+    def find_succeeding_attempt(self, plans: Iterator[AttemptPlan], first: int) -> int | None:
         """Makes attempts from the number `first` on until one finds a route, and returns its number, or None."""
-        return AttemptPool(self, plans, first).run() if self.options.jobs > 1 else self.find_attempt_here(plans, first)
+        return AttemptPool(self, plans,
+                           first).run() if self.options.jobs > 1 else self.find_succeeding_attempt_here(plans, first)
 
-    def find_attempt_here(self, plans: Iterator[AttemptPlan], first: int) -> int | None:
+    def find_succeeding_attempt_here(self, plans: Iterator[AttemptPlan], first: int) -> int | None:
         """Makes attempts in this process."""
         for index, plan in enumerate(plans, first):
             if time.monotonic() > self.deadline:
                 break
             self.outcome.attempts = index + 1
-            attempt = plan.attempt(self.deadline)
+            attempt = plan.new_attempt(self.deadline)
             try:
                 design = attempt.run(lambda placed, total: self.progress(index + 1, attempt.board.width, placed, total))
                 self.outcome.routed = routed_bundle(self.circuit_text, design, not self.options.side)
@@ -314,7 +319,7 @@ class Search:
 
 # What a process sends: that it placed gates, the side, and their steps if they are kept; how crowded its plane is; its
 # bundle; or why it failed.
-Message = tuple[str, int, int, object]
+AttemptMessage = tuple[str, int, int, object]
 
 
 @dataclass(frozen=True)
@@ -333,25 +338,25 @@ def run_attempt(connection: Connection, task: AttemptTask) -> None:
     """Makes one attempt, and sends messages on it. The process that started this one ends it."""
     signal.signal(signal.SIGINT, signal.SIG_IGN)
     plan = task.plan
-    attempt = plan.attempt(task.deadline)
+    attempt = plan.new_attempt(task.deadline)
 
-    def tell(placed: int, total: int) -> None:
+    def send_placed_count(placed: int, total: int) -> None:
         """Sends that gates were placed."""
         is_best = task.keeps_partial and placed == attempt.most_placed
         connection.send(("placed", placed, attempt.board.width, attempt.best_steps if is_best else None))
 
-    def tell_crowding() -> None:
+    def send_crowding() -> None:
         """Sends how crowded the plane is, if that is asked for."""
         if task.has_map:
             connection.send(("crowded", attempt.most_placed, attempt.board.width, crowding_of(attempt.board)))
 
     try:
-        design = attempt.run(tell)
-        tell_crowding()
+        design = attempt.run(send_placed_count)
+        send_crowding()
         connection.send(("routed", attempt.most_placed, attempt.board.width,
                          routed_bundle(task.circuit_text, design, task.is_cropped)))
     except NoRouteError as error:
-        tell_crowding()
+        send_crowding()
         connection.send(("failed", attempt.most_placed, attempt.board.width, error))
     finally:
         connection.close()
@@ -368,7 +373,7 @@ class AttemptWorker:
 class AttemptPool:
     """Attempts in several processes at a time, until one finds a route."""
 
-    def __init__(self, search: Search, plans: Iterator[AttemptPlan], first: int) -> None:
+    def __init__(self, search: RouterSearch, plans: Iterator[AttemptPlan], first: int) -> None:
         self.search, self.plans = search, enumerate(plans, first)
         self.workers: dict[Connection, AttemptWorker] = {}
         self.found: dict[int, RoutedBundle] = {}
@@ -379,14 +384,14 @@ class AttemptPool:
         search = self.search
         try:
             while time.monotonic() < search.deadline + 1:
-                while len(self.workers) < search.options.jobs and self.start():
+                while len(self.workers) < search.options.jobs and self.start_next_attempt():
                     pass
                 if not self.workers:
                     break
                 for connection in wait(list(self.workers), max(0.05, search.deadline + 1 - time.monotonic())):
                     # A message that was taken before may have ended this attempt.
                     if isinstance(connection, Connection) and connection in self.workers:
-                        self.receive(connection)
+                        self.receive_message(connection)
         finally:
             for worker in self.workers.values():
                 worker.process.kill()
@@ -397,7 +402,7 @@ class AttemptPool:
                 search.outcome.routed = self.found[min(self.found)]
         return min(self.found, default=None)
 
-    def start(self) -> bool:
+    def start_next_attempt(self) -> bool:
         """Starts the next attempt if it can still count; returns whether it does."""
         search, options = self.search, self.search.options
         following = None if self.found or time.monotonic() > search.deadline else next(self.plans, None)
@@ -414,7 +419,7 @@ class AttemptPool:
         search.outcome.attempts = index + 1
         return True
 
-    def receive(self, connection: Connection) -> None:
+    def receive_message(self, connection: Connection) -> None:
         """Takes a message of a process. A process that ended without one is dropped."""
         worker, search = self.workers[connection], self.search
         try:
@@ -427,14 +432,14 @@ class AttemptPool:
             return
         if isinstance(content, RoutedBundle):
             self.found[worker.index] = content
-            self.drop_later(worker.index)
+            self.end_later_attempts(worker.index)
         elif isinstance(content, NoRouteError):
             search.note_failure(content, placed)
         search.note_partial(placed, content if isinstance(content, list) else [], side)
         if kind == "placed":
             search.progress(worker.index + 1, side, placed, search.outcome.total)
 
-    def drop_later(self, index: int) -> None:
+    def end_later_attempts(self, index: int) -> None:
         """Ends the attempts that come after one that succeeded."""
         for connection, worker in list(self.workers.items()):
             if worker.index > index:
@@ -444,14 +449,14 @@ class AttemptPool:
 
 
 def partial_bundle(circuit: Circuit, outcome: SearchOutcome, options: SearchOptions,
-                   settings: Settings) -> tuple[str, int] | None:
+                   settings: RouterSettings) -> tuple[str, int] | None:
     """Returns a bundle of the part of a circuit that was placed, and its count of gates, or None if there is none."""
     part = PartialRoute(circuit, outcome.partial_placements, outcome.partial_side, options.most_side)
-    costs = replace(settings, wander_tries=80, end_rips=PARTIAL_RIPS)
+    costs = replace(settings, wander_tries=80, end_rips=MAX_PARTIAL_END_RIPS)
     if outcome.is_interrupted:
         found = hurried_design(part, costs, INTERRUPT_SECONDS)
     else:
-        found = partial_design(part, costs, max(LEAST_SECONDS, EFFORT_SHARE * options.effort_seconds))
+        found = partial_design(part, costs, max(LEAST_PARTIAL_SECONDS, PARTIAL_EFFORT_SHARE * options.effort_seconds))
     if found is None:
         return None
     try:

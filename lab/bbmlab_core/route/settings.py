@@ -8,7 +8,7 @@ OPEN_END_STEPS = 30
 
 
 @dataclass(frozen=True)
-class Settings:
+class RouterSettings:
     """What the search may spend, and what it prefers. Costs are in cells that a ball newly touches."""
 
     # The random joins to find one path, the paths of which the cheapest is taken, and the longest leg in steps.
@@ -105,9 +105,9 @@ class Settings:
     delay_per_rip: float = 100.0
 
 
-def open_end_settings() -> Settings:
+def open_end_settings() -> RouterSettings:
     """Returns the settings for parts of a join. Their balls go to no coils, and more is tried before a gate moves.
 
     With the settings for whole machines, a join of four slices of an adder took 8,043 steps, and not 5,860.
     """
-    return Settings(open_end_steps=OPEN_END_STEPS, wanders=4, most_blame=20, least_blame=1000)
+    return RouterSettings(open_end_steps=OPEN_END_STEPS, wanders=4, most_blame=20, least_blame=1000)

@@ -19,7 +19,8 @@ from itertools import chain
 from typing import Iterable, Iterator, Protocol
 
 from ..texts.layouts import Cell
-from .balls import BOUNCE_STEPS, Ball, Leg, Mirror, Turn, block_cells, bounce, mirror_cells, path_run
+from .balls import (BOUNCE_STEPS, Ball, BounceKind, Leg, Mirror, ball_and_mirror_after_bounce, block_cells,
+                    mirror_cells, path_run)
 from .cells import GateCell
 
 # The number of a cell is its row times ROW_STRIDE plus its column, and that of a block at a time is STEP_STRIDE times
@@ -31,14 +32,14 @@ STEP_STRIDE = ROW_STRIDE * ROW_STRIDE
 MARGIN_CELLS = 4
 RIM_CELLS = 2
 # A certificate's boxes are squares of this side, or rectangles of such squares.
-TILE = 16
+TILE_SIDE = 16
 TILE_BITS = 4
 # Flights of at least so many cells are counted at once. The digits 0 and 1 for these numbers.
 LEAST_BULK_COUNT = 8
-DIGITS = bytes.maketrans(b"\0\1", b"01")
+DIGIT_TABLE = bytes.maketrans(b"\0\1", b"01")
 # The square of `taken_count_around` has sides of twice this many cells.
 HALF_SQUARE_SIDE = 32
-BITS = [1 << index for index in range(ROW_STRIDE)]
+SINGLE_BITS = [1 << index for index in range(ROW_STRIDE)]
 # The steps of a bounce in which the lead and the tail claim the blocks that they would claim if they flew on, and the
 # steps before the next flight in which they claim blocks as if it began earlier. These are all blocks of the bounce.
 LEAD_PAST, TAIL_PAST, EARLY = 1, 2, 1
@@ -55,7 +56,7 @@ def cell_of_number(number: int) -> Cell:
 
 
 @cache
-def repeated_one(length: int) -> int:
+def number_of_one_words(length: int) -> int:
     """Returns a number in which each of so many words of 16 bits is 1."""
     return int.from_bytes(array("H", [1] * length).tobytes(), sys.byteorder)
 
@@ -72,8 +73,8 @@ def cells_entering_tiles(cells: Iterable[int], ahead: int) -> Iterator[int]:
         yield from (number + ahead for number in cells)
         return
     (x, y), to_right, down = cell_of_number(cells.start + ahead), cells.step % ROW_STRIDE == 1, cells.step > 0
-    columns = range((-x if to_right else x + 1) % TILE, len(cells), TILE)
-    rows = range((-y if down else y + 1) % TILE, len(cells), TILE)
+    columns = range((-x if to_right else x + 1) % TILE_SIDE, len(cells), TILE_SIDE)
+    rows = range((-y if down else y + 1) % TILE_SIDE, len(cells), TILE_SIDE)
     yield from (cells[index] + ahead for index in {*range(min(1, len(cells))), *columns, *rows})
 
 
@@ -91,7 +92,7 @@ class Footprint:
     claim_parts: NumberParts = ()
 
     @property
-    def touched(self) -> set[int]:
+    def touched_cells(self) -> set[int]:
         """The touched cells."""
         return set().union(*self.touched_parts)
 
@@ -100,7 +101,7 @@ class Footprint:
         """The blocks at times."""
         return set().union(*self.claim_parts)
 
-    def moved(self, x: int, y: int, time: int) -> "Footprint":
+    def shifted_by(self, x: int, y: int, time: int) -> "Footprint":
         """Returns what the item takes elsewhere and later."""
         base = y * ROW_STRIDE + x
         start = time * STEP_STRIDE + base
@@ -131,18 +132,18 @@ class BounceShape:
 
 
 @cache
-def bounce_shape(turn: Turn, dx: int, dy: int) -> BounceShape:
+def bounce_shape(turn: BounceKind, dx: int, dy: int) -> BounceShape:
     """Returns the shape of a bounce, from an exact run. It is the same for all places and times."""
     lead = Ball(100 + (dx < 0), 100 + (dy < 0), dx, dy, 0)
-    run = path_run(lead.flown(-2), [Leg(2, turn), Leg(BOUNCE_STEPS, None)])
-    own = mirror_cells([bounce(lead, turn)[1]])
+    run = path_run(lead.after_flight(-2), [Leg(2, turn), Leg(BOUNCE_STEPS, None)])
+    own = mirror_cells([ball_and_mirror_after_bounce(lead, turn)[1]])
     base = cell_number((lead.x, lead.y))
     touched = {cell for corners in run.blocks[2:] for corner in corners for cell in block_cells(corner)}
     return BounceShape(tuple(sorted(cell_number(cell) - base for cell in touched - own)),
                        tuple(sorted(cell_number(cell) - base for cell in own)))
 
 
-def add_claims(ball: Ball, steps: int, early: int, has_bounce: bool, claims: list[Iterable[int]]) -> None:
+def add_flight_claims(ball: Ball, steps: int, early: int, has_bounce: bool, claims: list[Iterable[int]]) -> None:
     """Adds the blocks at times of a straight flight, as ranges: from `early` steps before it on, and with its part of
     the bounce at its end if there is one."""
     x, y, dx, dy, time = ball
@@ -155,7 +156,7 @@ def add_claims(ball: Ball, steps: int, early: int, has_bounce: bool, claims: lis
             claims.append(own)
 
 
-def add_touched(ball: Ball, steps: int, touched: list[Iterable[int]]) -> None:
+def add_flight_cells(ball: Ball, steps: int, touched: list[Iterable[int]]) -> None:
     """Adds the cells of a straight flight, as ranges."""
     if steps <= 0:
         return
@@ -171,7 +172,7 @@ def add_touched(ball: Ball, steps: int, touched: list[Iterable[int]]) -> None:
                 for other in ((1, ROW_STRIDE) if dx == dy else (0, ROW_STRIDE + 1))]
 
 
-def path_item(ball: Ball, legs: Iterable[Leg], begun: int = 0) -> Footprint | None:
+def path_footprint(ball: Ball, legs: Iterable[Leg], begun: int = 0) -> Footprint | None:
     """Returns what a path takes, or None if the ball would come to one of its own mirrors at another time than it
     should.
 
@@ -184,26 +185,26 @@ def path_item(ball: Ball, legs: Iterable[Leg], begun: int = 0) -> Footprint | No
     for steps, turn in legs:
         if begun > steps:
             return None
-        first = ball.flown(begun)
-        add_claims(first, steps - begun, early, turn is not None, claims)
-        add_touched(first, steps - begun, touched)
-        ball = ball.flown(steps)
+        first = ball.after_flight(begun)
+        add_flight_claims(first, steps - begun, early, turn is not None, claims)
+        add_flight_cells(first, steps - begun, touched)
+        ball = ball.after_flight(steps)
         if turn is None:
             break
         shape, base = bounce_shape(turn, ball.dx, ball.dy), cell_number((ball.x, ball.y))
         touched.append([base + number for number in shape.touched])
         mirrors += [base + number for number in shape.mirror]
-        ball, begun, early = bounce(ball, turn)[0], BOUNCE_STEPS, EARLY
+        ball, begun, early = ball_and_mirror_after_bounce(ball, turn)[0], BOUNCE_STEPS, EARLY
     else:
         # The legs end at a bounce.
-        add_claims(ball.flown(begun), 0, early, False, claims)
+        add_flight_claims(ball.after_flight(begun), 0, early, False, claims)
     item = Footprint(frozenset(mirrors), tuple(touched), tuple(claims))
     return item if all(item.mirrors.isdisjoint(part) for part in touched) else None
 
 
-def cell_item(cell: GateCell, x: int, y: int, time: int) -> Footprint:
+def gate_cell_footprint(cell: GateCell, x: int, y: int, time: int) -> Footprint:
     """Returns what a gate's cell takes at a place and a time."""
-    mirrors, touched, claims = cell_shape(cell)
+    mirrors, touched, claims = gate_cell_shape(cell)
     base = y * ROW_STRIDE + x
     start = time * STEP_STRIDE + base
     return Footprint(frozenset(base + number for number in mirrors),
@@ -213,23 +214,23 @@ def cell_item(cell: GateCell, x: int, y: int, time: int) -> Footprint:
 
 # The numbers of mirrors, touched cells and blocks at times of each cell of the library, which lives as long as the
 # process.
-_shapes: dict[int, tuple[list[int], list[int], list[int]]] = {}
+_gate_cell_shapes: dict[int, tuple[list[int], list[int], list[int]]] = {}
 
 
-def cell_shape(cell: GateCell) -> tuple[list[int], list[int], list[int]]:
+def gate_cell_shape(cell: GateCell) -> tuple[list[int], list[int], list[int]]:
     """Returns what a gate's cell takes at place and time 0."""
-    shape = _shapes.get(id(cell))
+    shape = _gate_cell_shapes.get(id(cell))
     if shape is None:
         claims = {time * STEP_STRIDE + cell_number(corner) for time, corners in enumerate(cell.blocks)
                   for corner in corners}
         shape = [cell_number(own) for own in cell.mirrors], [cell_number(own)
                                                              for own in cell.touched_cells], list(claims)
-        _shapes[id(cell)] = shape
+        _gate_cell_shapes[id(cell)] = shape
     return shape
 
 
 @dataclass(frozen=True)
-class LaidItem:
+class LaidFootprint:
     """An item that is on the plane for a while: its mirrors, the cells that it took one by one, and parts of lists of
     bits as they were before."""
 
@@ -238,7 +239,7 @@ class LaidItem:
     saved: list[tuple[list[int], slice, list[int]]]
 
 
-class Claims(Protocol):
+class BlockClaims(Protocol):
     """The blocks at times that items on the plane claim: numbers, or what stands for them."""
 
     def update(self, *parts: Iterable[int]) -> None:
@@ -254,7 +255,7 @@ class Claims(Protocol):
         """Returns 0 if nothing is claimed."""
 
 
-class World:
+class RoutingGrid:
     """A rectangle of cells with the items on it, which can grow. Rows and diagonals of cells are bits of numbers.
 
     `size` is its width, and its height too unless `height` is given.
@@ -262,7 +263,7 @@ class World:
 
     def __init__(self, size: int, height: int | None = None) -> None:
         self.size, self.height = size, height or size
-        self.claims: Claims = set()
+        self.claims: BlockClaims = set()
         self.mirrors: set[int] = set()
         # How many parts of items touch a cell or have a mirror there, and the same cells as bits of rows: no new mirror
         # may be there.
@@ -286,7 +287,7 @@ class World:
         for number in item.mirrors:
             self._flip_diagonals(number, self.mirror_falling, self.mirror_rising)
         for part in (item.mirrors, *item.touched_parts):
-            self._count(part, 1)
+            self._change_counts(part, 1)
 
     def remove(self, item: Footprint) -> None:
         """Removes an item."""
@@ -295,19 +296,19 @@ class World:
         for number in item.mirrors:
             self._flip_diagonals(number, self.mirror_falling, self.mirror_rising)
         for part in (item.mirrors, *item.touched_parts):
-            self._count(part, -1)
+            self._change_counts(part, -1)
 
-    def lay(self, item: Footprint) -> LaidItem:
-        """Puts the bits of an item on the plane until `lift`: it is not counted and claims nothing.
+    def lay_temporarily(self, item: Footprint) -> LaidFootprint:
+        """Puts the bits of an item on the plane until `lift_last_laid`: it is not counted and claims nothing.
 
         Nothing else is added or removed meanwhile, and what was laid last is lifted first. A search lays and lifts
         100,000 legs, which costs less than to add and remove them.
         """
-        laid = LaidItem(item.mirrors, [], [])
+        laid = LaidFootprint(item.mirrors, [], [])
         self.mirrors |= item.mirrors
         for number in item.mirrors:
             self._flip_diagonals(number, self.mirror_falling, self.mirror_rising)
-        # `lift` puts the parts of lists back first, and then takes single cells away.
+        # `lift_last_laid` puts the parts of lists back first, and then takes single cells away.
         for part in (item.mirrors, *(part for part in item.touched_parts if not isinstance(part, range))):
             self._lay_cells(part, laid)
         for part in item.touched_parts:
@@ -315,26 +316,27 @@ class World:
                 self._lay_flight(part, laid)
         return laid
 
-    def _lay_cells(self, part: Iterable[int], laid: LaidItem) -> None:
+    def _lay_cells(self, part: Iterable[int], laid: LaidFootprint) -> None:
         """Sets the bits of cells, and notes those that were not set."""
         rows = self.blocked
         for number in part:
-            y, bit = number >> ROW_BITS, BITS[number & ROW_STRIDE - 1]
+            y, bit = number >> ROW_BITS, SINGLE_BITS[number & ROW_STRIDE - 1]
             if not rows[y] & bit:
                 rows[y] |= bit
                 self._flip_diagonals(number, self.blocked_falling, self.blocked_rising)
                 laid.newly_set_cells.append(number)
 
-    def _lay_flight(self, flight: range, laid: LaidItem) -> None:
+    def _lay_flight(self, flight: range, laid: LaidFootprint) -> None:
         """Sets the bits of the cells of a straight flight, and notes the parts of lists that have them as they were."""
         down, count = flight if flight.step > 0 else flight[::-1], len(flight)
         x, y = cell_of_number(down.start)
         falling, rising = y - x + ROW_STRIDE, y + x
         if down.step > ROW_STRIDE:
-            bits, own, across = BITS[x:x + count], (self.blocked_falling, falling), (self.blocked_rising, rising)
+            bits, own, across = SINGLE_BITS[x:x + count], (self.blocked_falling, falling), (self.blocked_rising, rising)
         else:
-            bits, own, across = BITS[x - count + 1:x + 1][::-1], (self.blocked_rising, rising), (self.blocked_falling,
-                                                                                             falling)
+            bits = SINGLE_BITS[x - count + 1:x + 1][::-1]
+            own = (self.blocked_rising, rising)
+            across = (self.blocked_falling, falling)
         whole = (1 << count) - 1 << x if down.step > ROW_STRIDE else (1 << count) - 1 << x - count + 1
         for (lines, line), length, stride, more in (((self.blocked, y), count, 1, bits), (across, 2 * count, 2, bits),
                                                     (own, 1, 1, [whole])):
@@ -343,23 +345,27 @@ class World:
             laid.saved.append((lines, place, before))
             lines[place] = [*map(operator.or_, before, more)]
 
-    def lift(self, laid: LaidItem) -> None:
+    def lift_last_laid(self, laid: LaidFootprint) -> None:
         """Takes the bits of the item that was laid last away again."""
         for lines, place, before in reversed(laid.saved):
             lines[place] = before
         for number in laid.newly_set_cells:
-            self.blocked[number >> ROW_BITS] ^= BITS[number & ROW_STRIDE - 1]
+            self.blocked[number >> ROW_BITS] ^= SINGLE_BITS[number & ROW_STRIDE - 1]
             self._flip_diagonals(number, self.blocked_falling, self.blocked_rising)
         for number in laid.mirrors:
             self._flip_diagonals(number, self.mirror_falling, self.mirror_rising)
         self.mirrors -= laid.mirrors
 
-    def _count(self, part: Iterable[int], change: int) -> None:
+    def _change_counts(self, part: Iterable[int], change: int) -> None:
         """Counts one part more at its cells, or one less if the change is -1.
 
         A cell's bits change if no other part is there. Those of a flight on its own diagonal change at once.
         """
-        counts, bits, rows, falling, rising = self.counts, BITS, self.blocked, self.blocked_falling, self.blocked_rising
+        counts = self.counts
+        bits = SINGLE_BITS
+        rows = self.blocked
+        falling = self.blocked_falling
+        rising = self.blocked_rising
         if not isinstance(part, range) or len(part) < LEAST_BULK_COUNT or part.stop < 0:
             for number in part:
                 counts[number] += change
@@ -373,11 +379,11 @@ class World:
         (x, y), length, own = cell_of_number(part.start), len(part), slice(part.start, part.stop, part.step)
         dx, dy = 1 if part.step % ROW_STRIDE == 1 else -1, 1 if part.step > 0 else -1
         before = counts[own]
-        total = int.from_bytes(before.tobytes(), sys.byteorder) + change * repeated_one(length)
+        total = int.from_bytes(before.tobytes(), sys.byteorder) + change * number_of_one_words(length)
         after = array("H", total.to_bytes(2 * length, sys.byteorder))
         counts[own] = after
         is_changed = bytes(map(operator.not_, before if change > 0 else after))
-        digits = is_changed.translate(DIGITS)
+        digits = is_changed.translate(DIGIT_TABLE)
         mask = int(digits[::-1], 2) << x if dx > 0 else int(digits, 2) << x - length + 1
         if dx == dy:
             falling[y - x + ROW_STRIDE] ^= mask
@@ -400,7 +406,7 @@ class World:
     def can_add(self, item: Footprint) -> bool:
         """Whether an item may be added: it meets nothing that is there, neither in space nor in time."""
         blocked, mirrors, claims = self.blocked, self.mirrors, self.claims
-        return (not any(blocked[number >> ROW_BITS] & BITS[number & ROW_STRIDE - 1] for number in item.mirrors)
+        return (not any(blocked[number >> ROW_BITS] & SINGLE_BITS[number & ROW_STRIDE - 1] for number in item.mirrors)
                 and all(mirrors.isdisjoint(part) for part in item.touched_parts)
                 and all(claims.isdisjoint(part) for part in item.claim_parts))
 
@@ -408,7 +414,7 @@ class World:
         """Whether a ball may be at a cell."""
         return MARGIN_CELLS <= x < self.size - MARGIN_CELLS and MARGIN_CELLS <= y < self.height - MARGIN_CELLS
 
-    def can_hold(self, mirror: Mirror) -> bool:
+    def has_room_for_mirror(self, mirror: Mirror) -> bool:
         """Whether a mirror may stand where nothing is and no ball passes."""
         x, y, width, height = mirror
         if x < RIM_CELLS or y < RIM_CELLS or x + width > self.size - RIM_CELLS or y + height > self.height - RIM_CELLS:

@@ -14,7 +14,7 @@ from typing import Iterable, Iterator
 
 from ..host.program import open_program
 from ..host.terminal import LabError
-from ..joining.command import SETTINGS
+from ..joining.command import JOIN_SETTINGS
 from ..joining.composing import NamedPart
 from ..joining.modules import JoinedModules
 from ..joining.parts import ALWAYS_SIGNAL, PartBundle
@@ -22,18 +22,18 @@ from ..joining.planning import BallJob, JoinPlan, PlacedPart
 from ..joining.wiring import JoinWiring, ball_words
 from ..route.balls import Ball, Leg
 from ..route.board import NoRouteError
-from ..route.certificate import rectangles
+from ..route.certificate import rectangles_of_cells
 from ..route.paths import Path as BallPath
 from ..route.world import RIM_CELLS, ROW_STRIDE, cell_of_number
 from ..texts.certificates import Certificate
 from ..texts.circuits import Circuit, Gate
 from ..texts.documents import Document, read_document
 from ..texts.layouts import Cell, Layout
-from ..texts.limits import SECOND_LIMITS, limits_for, with_limits_line
+from ..texts.limits import SECOND_LIMITS, smallest_fitting_limits, text_with_limits_line
 from ..texts.skimming import design_text
-from ..texts.spelling import spelling_of
+from ..texts.spelling import spell_text
 from .machines import FinalBall, MachineRun
-from .verdicts import Judge
+from .verdicts import VerdictFinder
 
 # The columns and rows around the layout that may be used, and the steps to spare of the ball, by the attempts.
 MARGINS_BY_ATTEMPT = (0, 32, 64, 128, 256, 512)
@@ -41,7 +41,7 @@ SPARE_STEPS = (60, 150, 250)
 # The further steps for each cell between the two ports: the ball flies round what is in the way.
 DETOUR_STEPS_PER_CELL = 0.35
 # The seconds in which the program and the lab's search for a certificate must end.
-CHECK_SECONDS = 20.0
+MAX_CHECK_SECONDS = 20.0
 
 
 class UnlimitedModules(JoinedModules):
@@ -50,7 +50,7 @@ class UnlimitedModules(JoinedModules):
     def __init__(self) -> None:
         """There is nothing to keep."""
 
-    def modules_hearing(self, path: BallPath) -> set[int]:
+    def module_numbers_near_path(self, path: BallPath) -> set[int]:
         """Returns no modules."""
         return set()
 
@@ -58,7 +58,7 @@ class UnlimitedModules(JoinedModules):
         """Whether there is room for a wire."""
         return True
 
-    def count_wire(self, wire: str, numbers: Iterable[int], change: int) -> None:
+    def change_wire_count(self, wire: str, numbers: Iterable[int], change: int) -> None:
         """Notes nothing."""
 
 
@@ -66,11 +66,11 @@ class ConnectionWiring(JoinWiring):
     """The paths of a connection: between its ports straight or by a few bounces, if that can be."""
 
     def __init__(self, plan: JoinPlan, seed: int, deadline: float) -> None:
-        super().__init__(plan, UnlimitedModules(), seed, SETTINGS, deadline)
+        super().__init__(plan, UnlimitedModules(), seed, JOIN_SETTINGS, deadline)
         # All balls are of one layout, so none has to leave it.
         self.world.boxes, self.world.box_of_tile = [], {}
 
-    def closed_end_words(self) -> str:
+    def closed_end_reason(self) -> str:
         """Says which open end no ball can leave even if no other ball is led, or returns nothing."""
         for index, ball, sign in self.closed_ends():
             where = "behind it" if sign > 0 else "before it"
@@ -82,7 +82,7 @@ class ConnectionWiring(JoinWiring):
     def find_connecting_path(self, wire: str, start: Ball, goal: Ball) -> BallPath | None:
         """Returns a path between two balls."""
         steps = goal.time - start.time
-        straight = [Leg(steps, None)] if start.flown(steps) == goal else None
+        straight = [Leg(steps, None)] if start.after_flight(steps) == goal else None
         legs = straight or self.finder.find_direct_legs(start, goal, self.settings.path_tries)
         path = self.finder.path_of_legs(wire, start, goal, legs) if legs else None
         return path or super().find_connecting_path(wire, start, goal)
@@ -113,7 +113,8 @@ class PortConnection:
         """Returns when the machine of the input may begin: first so that the ball flies straight on, if it can."""
         ball, goal = self.out.ball, self.goal
         far = max(abs(ball.x - goal.x), abs(ball.y - goal.y))
-        straight = [goal_time for goal_time in (ball.time + far,) if ball.flown(far) == goal.moved(0, 0, goal_time)]
+        straight = [goal_time for goal_time in (ball.time + far,)
+                    if ball.after_flight(far) == goal.shifted_by(0, 0, goal_time)]
         return straight + [(ball.time + int((1 + DETOUR_STEPS_PER_CELL) * far) + slack + 1) // 2 * 2
                            for slack in SPARE_STEPS]
 
@@ -177,14 +178,14 @@ class ConnectedText:
     def __init__(self, connection: PortConnection, plan: JoinPlan, paths: list[BallPath]) -> None:
         self.connection, self.plan, self.paths = connection, plan, paths
         self.room = plan.placed[0].x
-        self.left, self.top, self.width, self.height = self.frame()
+        self.left, self.top, self.width, self.height = self.enclosing_box()
 
-    def frame(self) -> tuple[int, int, int, int]:
+    def enclosing_box(self) -> tuple[int, int, int, int]:
         """Returns the part of the plane that has the layout and all paths: its corner, its width and its height."""
         layout, room = self.connection.layout, self.room
         xs, ys = [room + layout.width // 2], [room + layout.height // 2]
         for path in self.paths:
-            for number in (*path.item.mirrors, *path.item.touched):
+            for number in (*path.item.mirrors, *path.item.touched_cells):
                 xs.append(number % ROW_STRIDE)
                 ys.append(number // ROW_STRIDE)
         left, top = min(room, max(0, min(xs) - RIM_CELLS) & ~1), min(room, max(0, min(ys) - RIM_CELLS) & ~1)
@@ -203,8 +204,9 @@ class ConnectedText:
     def text(self) -> str:
         """Returns the circuit and the layout."""
         circuit = self.connection.circuit
-        limits = limits_for(max(self.width, self.height), self.plan.end, 1, len(circuit.gates), len(circuit.wires))
-        return with_limits_line(self.connection.circuit_section() + "\n".join(self.layout_lines()) + "\n", limits)
+        limits = smallest_fitting_limits(max(self.width, self.height), self.plan.end, 1, len(circuit.gates),
+                                         len(circuit.wires))
+        return text_with_limits_line(self.connection.circuit_section() + "\n".join(self.layout_lines()) + "\n", limits)
 
     def layout_lines(self) -> Iterator[str]:
         """Yields the lines of the layout: mirrors, those of the paths last, and then the ports."""
@@ -214,7 +216,7 @@ class ConnectedText:
             x, y = self.moved_old_cell(part.cell)
             yield f"mirror {x} {y} {part.width} {part.height}"
         new = {self.cell_from_plane(cell_of_number(number)) for path in self.paths for number in path.item.mirrors}
-        for x, y, width, height in rectangles(new):
+        for x, y, width, height in rectangles_of_cells(new):
             yield f"mirror {x} {y} {width} {height}"
         ports = sorted(self.ports(), key=lambda port: ("ball", "in", "out", "waste").index(port[0]))
         for kind, name, (x, y) in ports:
@@ -249,7 +251,7 @@ def lead_all_balls(connection: PortConnection, deadline: float, seed: int) -> Co
         for delay in connection.possible_delays():
             plan = connection.join_plan(delay, room)
             wiring = ConnectionWiring(plan, seed, deadline)
-            why = wiring.closed_end_words()
+            why = wiring.closed_end_reason()
             if why:
                 break
             try:
@@ -263,7 +265,7 @@ def lead_all_balls(connection: PortConnection, deadline: float, seed: int) -> Co
 
 def connect_ports(text: str, ports: tuple[str, str], deadline: float, seed: int) -> ConnectedText:
     """Returns the connection of an output and an input of a text."""
-    head = design_text(spelling_of(text).text)
+    head = design_text(spell_text(text).text)
     document = read_document(head, "design")
     if document.refusal or not document.circuit or not document.layout:
         raise LabError("The circuit and the layout cannot be read: fix this first.")
@@ -278,7 +280,7 @@ def main() -> int:
         made = connect_ports(Path(source).read_bytes().decode("latin-1"), (output, given), deadline, int(seed))
         text = made.text()
         print(f"Led in {made.plan.end} steps. The program checks.", file=sys.stderr, flush=True)
-        verdict = Judge(text, open_program(program), CHECK_SECONDS).verdict()
+        verdict = VerdictFinder(text, open_program(program), MAX_CHECK_SECONDS).verdict()
         if verdict.verdict != "yes":
             words = " ".join(verdict.words)
             raise LabError(f"The balls could be led, but the verdict would be {verdict.verdict}. {words}")

@@ -1,18 +1,18 @@
 /**
- * The layout on the desk: its model and its run, again at each change. A worker runs it for the ways of its balls and
- * its truth table.
+ * The layout that is edited: its model and its run, again at each change. A worker runs it for the ways of its balls
+ * and its truth table.
  */
 import { Player } from "../view/player.js";
 import * as geometry from "./geometry.js";
-import { Model } from "./model.js";
+import { LayoutModel } from "./model.js";
 import * as surveys from "./survey.js";
 
 const MAX_TABLE_INPUTS = 8, MAX_EXACT_INPUTS = 5;
 // How long the run to the end may take of each turn, in milliseconds: a frame takes 16, and painting comes first.
-const SLICE_MILLISECONDS = 4;
+const RUN_SLICE_MILLISECONDS = 4;
 const BLANK_LAYOUT = { width: 48, height: 48, steps: 0, mirrors: [], balls: [], ins: [], outs: [], wastes: [] };
 
-class Desk {
+class EditedLayout {
   worker;
   off = new Set();
   waysMode = "all";
@@ -26,7 +26,7 @@ class Desk {
   rows = null;
   layout;
   model;
-  fallen;
+  unstable;
   player;
   hasTable;
   sentCircuit;
@@ -42,7 +42,7 @@ class Desk {
 
   /** Takes another text, without a history. */
   open(text) {
-    this.model = new Model(text);
+    this.model = new LayoutModel(text);
     this.model.listen(() => this.refresh());
     this.off.clear();
     if (this.player) this.player.target = 0;
@@ -60,9 +60,9 @@ class Desk {
   refresh() {
     const old = this.player;
     this.layout = this.model.layout || { ...this.layout };
-    this.fallen = geometry.fallingMirrors(this.layout.mirrors);
+    this.unstable = geometry.unstableMirrors(this.layout.mirrors);
     if (old) {
-      old.play(0);
+      old.setPlayDirection(0);
       clearTimeout(old.aheadTimer);
       clearTimeout(old.seekTimer);
       old.listeners = { time: [], progress: [], end: [], play: [], inputs: [] };
@@ -71,7 +71,7 @@ class Desk {
     const player = new Player({ layout: this.layout, circuit: this.circuit, certificate: null, isQuiet: !this.hasWave,
       assign: { on: names.filter((name) => !this.off.has(name)) } });
     this.player = player;
-    player.slice = SLICE_MILLISECONDS;
+    player.slice = RUN_SLICE_MILLISECONDS;
     this.askWorker();
     player.restart(old ? Math.min(old.target, this.layout.steps) : 0);
     for (const what of ["time", "end", "play"]) player.listen(what, () => this.notify(what));
@@ -150,4 +150,4 @@ class Desk {
   }
 }
 
-export { Desk };
+export { EditedLayout };

@@ -4,29 +4,29 @@
  */
 import { server } from "./server_link.js";
 
-const PREFIX = "bbmlab draft ";
-const keyOf = (folder, name, tab) => `${PREFIX}${JSON.stringify([folder, name, tab])}`;
+const DRAFT_KEY_PREFIX = "bbmlab draft ";
+const draftKey = (folder, name, tab) => `${DRAFT_KEY_PREFIX}${JSON.stringify([folder, name, tab])}`;
 
 /** Keeps a draft. Returns false if the browser has no room. */
 function keepDraft(folder, name, text, digest) {
   try {
-    localStorage.setItem(keyOf(folder, name, server.tab), JSON.stringify({ text, digest, at: Date.now() }));
+    localStorage.setItem(draftKey(folder, name, server.tab), JSON.stringify({ text, digest, at: Date.now() }));
     return true;
   } catch { return false; }
 }
 
 /** Forgets this tab's draft of a file. */
-function forgetDraft(folder, name, tab = server.tab) { localStorage.removeItem(keyOf(folder, name, tab)); }
+function forgetDraft(folder, name, tab = server.tab) { localStorage.removeItem(draftKey(folder, name, tab)); }
 
 /**
  * Puts this tab's draft of a file, from before the file was opened, under another name. It stays there until the user
  * takes it or throws it away: the tab's next draft of the file does not replace it.
  */
 function setDraftAside(folder, name, saved) {
-  const key = keyOf(folder, name, server.tab), draft = localStorage.getItem(key);
+  const key = draftKey(folder, name, server.tab), draft = localStorage.getItem(key);
   if (draft === null) return;
   localStorage.removeItem(key);
-  if (JSON.parse(draft).text !== saved) localStorage.setItem(keyOf(folder, name, crypto.randomUUID()), draft);
+  if (JSON.parse(draft).text !== saved) localStorage.setItem(draftKey(folder, name, crypto.randomUUID()), draft);
 }
 
 /**
@@ -43,9 +43,10 @@ async function findDrafts(folder, name) {
   const drafts = [];
   for (let index = 0; index < localStorage.length; index += 1) {
     const key = localStorage.key(index);
-    if (!key.startsWith(PREFIX)) continue;
+    if (!key.startsWith(DRAFT_KEY_PREFIX)) continue;
     try {
-      const [place, file, tab] = JSON.parse(key.slice(PREFIX.length)), draft = JSON.parse(localStorage.getItem(key));
+      const [place, file, tab] = JSON.parse(key.slice(DRAFT_KEY_PREFIX.length));
+      const draft = JSON.parse(localStorage.getItem(key));
       const isOther = tab !== server.tab && held.includes(server.lockName(tab));
       if (place === folder && file === name && !isOther
           && typeof draft.text === "string") drafts.push({ ...draft, tab });

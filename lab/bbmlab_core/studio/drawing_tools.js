@@ -30,7 +30,7 @@ class Tools {
   at = null;
   followed;
 
-  /** @param {Desk} desk @param {Sketch} sketch @param {(text: string, isBad?: boolean) => void} say */
+  /** @param {EditedLayout} desk @param {EditorStage} sketch @param {(text: string, isBad?: boolean) => void} say */
   constructor(desk, sketch, say) {
     this.desk = desk;
     this.sketch = sketch;
@@ -44,16 +44,16 @@ class Tools {
   get steps() { return this.desk.layout.steps; }
 
   /** Takes another tool. */
-  choose(name) {
+  chooseTool(name) {
     this.cancel();
     this.source = null;
     this.name = name;
-    if (name !== "select") this.select([]);
+    if (name !== "select") this.selectLines([]);
     this.hover(this.at);
   }
 
   /** Selects the parts of some lines. */
-  select(lines) {
+  selectLines(lines) {
     this.selection = new Set(lines);
     this.sketch.selected = this.model.partsOfLines(this.selection);
     this.sketch.requestOver();
@@ -63,10 +63,10 @@ class Tools {
   /**
    * Keeps the selection on its parts after a change, since their lines may have moved. Another file begins without one.
    */
-  keepSelection() {
-    const { model } = this, lines = model.takeMovedLines(model === this.followed ? this.selection : []);
+  followMovedSelection() {
+    const { model } = this, lines = model.takeNewLineNumbers(model === this.followed ? this.selection : []);
     this.followed = model;
-    this.select(model.partsOfLines(lines).map(({ line }) => line));
+    this.selectLines(model.partsOfLines(lines).map(({ line }) => line));
   }
 
   /** Ends what was begun, without a change. */
@@ -87,24 +87,24 @@ class Tools {
   // ---- what a tool would do
 
   /** Returns the parts that a tool would put at a cell, or null. */
-  partsFor(cell) {
+  partsToPlaceAt(cell) {
     if (!CELL_PART_KINDS.includes(this.name)) return null;
     const isLate = this.name === "out" || this.name === "waste";
     const name = this.name === "in" || this.name === "out" ? this.wire : null;
-    const cells = this.isPair ? geometry.pairCells(cell, isLate ? this.steps : 0) : [cell];
+    const cells = this.isPair ? geometry.twoBallCells(cell, isLate ? this.steps : 0) : [cell];
     return cells.map(([x, y]) => ({ kind: this.name, name, box: [x, y, 1, 1], line: -1 }));
   }
 
   /** Returns the mirror for a box that was dragged: the nearest one that stays. A click makes one of 4 by 2 cells. */
-  mirrorFor(start, end) {
+  mirrorForDrag(start, end) {
     const { width, height } = this.desk.layout, isClick = start[0] === end[0] && start[1] === end[1];
     const wanted = isClick ? [...start, ...CLICK_MIRROR_SIZE] : boxBetween(start, end);
-    const box = geometry.snapMirror(wanted, width, height);
+    const box = geometry.nearestStableBox(wanted, width, height);
     return { wanted, parts: box ? [{ kind: "mirror", name: null, box, line: -1 }] : [] };
   }
 
   /** Shows what a tool would do, and says why if it cannot. */
-  show(ghost) {
+  showGhost(ghost) {
     this.sketch.ghost = ghost;
     this.sketch.requestOver();
     if (ghost && ghost.reason) this.say(ghost.reason, true);
@@ -117,16 +117,16 @@ class Tools {
     this.at = cell;
     if (this.pressed) return;
     if (cell === null || !this.model.header) {
-      this.show(null);
+      this.showGhost(null);
       return;
     }
     if (this.name === "mirror") this.showMirror(cell, cell);
     else if (this.name === "cell" && this.cell) this.showStandardCell(cell);
-    else if (this.name === "paste") this.show(this.copiedGhost(cell));
+    else if (this.name === "paste") this.showGhost(this.copiedGhost(cell));
     else if (this.name === "connect") this.showConnection(cell);
     else {
-      const parts = this.partsFor(cell);
-      this.show(parts && { parts, reason: this.model.whyNoFit(parts), time: this.steps,
+      const parts = this.partsToPlaceAt(cell);
+      this.showGhost(parts && { parts, reason: this.model.misfitReason(parts), time: this.steps,
         words: this.flightWords(parts) });
     }
   }
@@ -141,13 +141,13 @@ class Tools {
 
   /** Shows the mirror between two cells. */
   showMirror(start, end) {
-    const { wanted, parts } = this.mirrorFor(start, end), why = geometry.fallReason(wanted);
+    const { wanted, parts } = this.mirrorForDrag(start, end), why = geometry.instabilityReason(wanted);
     const isClick = start[0] === end[0] && start[1] === end[1], box = parts.length ? parts[0].box : null;
-    const reason = box ? this.model.whyNoFit(parts) : "No mirror of this size stays here.";
+    const reason = box ? this.model.misfitReason(parts) : "No mirror of this size stays here.";
     const words = why && !isClick
       ? `The dashed mirror would fall apart, since ${why}. The nearest one that stays: ${box ? box.join(" ") : "none"}.`
       : `Mirror ${box ? box.join(" ") : ""}`;
-    this.show({ parts, reason, wanted: why && !isClick ? wanted : null, words });
+    this.showGhost({ parts, reason, wanted: why && !isClick ? wanted : null, words });
   }
 
   /** Returns the even corner at which a standard cell is put so that a cell is near its middle. */
@@ -164,21 +164,21 @@ class Tools {
     const steps = Math.max(layout.steps, this.steps);
     const parts = standardCellParts(layout, x, y, this.hasWires ? (wire) => wire : null, steps);
     const isFit = layout.width <= this.desk.layout.width && layout.height <= this.desk.layout.height;
-    const reason = isFit ? this.model.whyNoFit(parts)
+    const reason = isFit ? this.model.misfitReason(parts)
       : `The cell ${name} takes ${layout.width} by ${layout.height} cells. Press to make the layout larger.`;
     const shown = ports.map((port) => ({ ...port, cell: [port.cell[0] + x, port.cell[1] + y] }));
-    this.show({ parts, reason, ports: shown, words: `${name} ${this.cell.about}; ${layout.steps} steps.` });
+    this.showGhost({ parts, reason, ports: shown, words: `${name} ${this.cell.about}; ${layout.steps} steps.` });
   }
 
   /** Returns the port at a cell that the tool `connect` takes next: an output, and then an input. */
-  nextPort(cell) {
+  portToConnectAt(cell) {
     const kind = this.source ? "in" : "out";
-    return this.model.partsOn(...cell).find((part) => part.kind === kind) ?? null;
+    return this.model.partsAtCell(...cell).find((part) => part.kind === kind) ?? null;
   }
 
   /** Shows the port that would be taken, and a line to it from the output that was pressed. */
   showConnection(cell) {
-    const port = this.nextPort(cell), { source } = this;
+    const port = this.portToConnectAt(cell), { source } = this;
     const isTaken = ({ kind, name }) => (source && kind === "out" && name === source.name)
       || (port && kind === port.kind && name === port.name);
     const parts = port || source ? this.model.parts.filter(isTaken) : [];
@@ -186,19 +186,19 @@ class Tools {
       ? port ? `Press to lead the ball of ${source.name} here: it takes the place of the input ${port.name}.`
         : `Press the input to which the ball of ${source.name} is to fly, or Escape.`
       : port ? `Press to lead the ball of ${port.name} on to an input.` : "Press an output.";
-    this.show({ parts, words, time: this.steps, link: source ? [source.cell, cell] : null });
+    this.showGhost({ parts, words, time: this.steps, link: source ? [source.cell, cell] : null });
   }
 
   /** Takes an output, or has its ball led to an input. */
   connectAt(cell) {
-    const port = this.nextPort(cell), { source } = this;
+    const port = this.portToConnectAt(cell), { source } = this;
     if (!port) {
       this.say(source ? "This is no input." : "This is no output: press an `out` cell first.", true);
       return;
     }
     this.source = source ? null : { name: port.name, cell };
     if (source) {
-      this.show(null);
+      this.showGhost(null);
       this.onConnect(source.name, port.name);
     } else this.showConnection(cell);
   }
@@ -206,10 +206,10 @@ class Tools {
   /** Returns the ghost of the copied parts with their frame near a cell. */
   copiedGhost([x, y]) {
     if (this.clipboard.length === 0) return null;
-    const [left, top] = geometry.evenFrame(this.clipboard.map(({ box }) => box));
+    const [left, top] = geometry.evenBoundingBox(this.clipboard.map(({ box }) => box));
     const [dx, dy] = [x - x % 2 - left, y - y % 2 - top];
     const parts = geometry.shiftedParts(this.clipboard, dx, dy);
-    return { parts, reason: this.model.whyNoFit(parts), words: "Press to paste here." };
+    return { parts, reason: this.model.misfitReason(parts), words: "Press to paste here." };
   }
 
   // ---- pressing and dragging
@@ -218,7 +218,7 @@ class Tools {
   beginPress(cell, isMore = false) {
     if (!this.model.header || cell === null) return;
     this.at = cell;
-    const begin = { select: () => this.grab(cell, isMore), erase: () => this.erase(cell),
+    const begin = { select: () => this.beginMoveOrFrame(cell, isMore), erase: () => this.erase(cell),
       mirror: () => this.showMirror(cell, cell) }[this.name];
     this.pressed = { start: cell, isMore, mode: this.name };
     if (begin) begin();
@@ -239,19 +239,21 @@ class Tools {
   }
 
   /** Ends at a cell. */
-  release(cell) {
+  endPress(cell) {
     if (!this.pressed) return;
     const { start, mode, isMore, move } = this.pressed, end = cell || this.at;
     this.pressed = null;
-    if (mode === "mirror") this.tryCommand(() => this.model.add(this.mirrorFor(start, end).parts, "mirror"));
+    if (mode === "mirror") this.tryCommand(() => this.model.addParts(this.mirrorForDrag(start, end).parts, "mirror"));
     else if (mode === "move") this.endMove(move);
     else if (mode === "frame") this.selectInFrame(boxBetween(start, end), isMore);
-    else if (mode === "cell") this.placeCell(end);
+    else if (mode === "cell") this.placeStandardCell(end);
     else if (mode === "paste") this.placeCopies(end);
     else if (mode === "connect") {
       this.connectAt(end);
       return;
-    } else if (CELL_PART_KINDS.includes(mode)) this.tryCommand(() => this.model.addBallsOrPorts(this.partsFor(end)));
+    } else if (CELL_PART_KINDS.includes(mode)) {
+      this.tryCommand(() => this.model.addBallsOrPorts(this.partsToPlaceAt(end)));
+    }
     this.sketch.ghost = null;
     this.sketch.frame2 = null;
     this.sketch.requestOver();
@@ -260,7 +262,7 @@ class Tools {
   /**
    * Puts the standard cell at a place. If it is larger than the layout, asks first whether to make the layout larger.
    */
-  async placeCell(cell) {
+  async placeStandardCell(cell) {
     if (!this.cell) return;
     const { layout, circuit, name } = this.cell, { width, height, steps } = this.desk.layout;
     const size = [Math.max(width, layout.width), Math.max(height, layout.height)];
@@ -279,45 +281,46 @@ class Tools {
     const ghost = this.copiedGhost(cell);
     if (!ghost) return;
     let lines = [];
-    if (!this.tryCommand(() => { lines = this.model.add(ghost.parts, "paste"); })) return;
-    this.choose("select");
-    this.select(lines);
+    if (!this.tryCommand(() => { lines = this.model.addParts(ghost.parts, "paste"); })) return;
+    this.chooseTool("select");
+    this.selectLines(lines);
     if (this.onTool) this.onTool();
   }
 
   /** Removes what is at a cell. */
   erase(cell) {
-    const found = this.model.partsOn(...cell);
-    if (found.length) this.model.remove([found[0].line]);
+    const found = this.model.partsAtCell(...cell);
+    if (found.length) this.model.removeParts([found[0].line]);
   }
 
   /** Selects what is at a cell and begins to move it, or begins a frame. */
-  grab(cell, isMore) {
-    const found = this.model.partsOn(...cell), chosen = found.find(({ line }) => this.selection.has(line)) || found[0];
+  beginMoveOrFrame(cell, isMore) {
+    const found = this.model.partsAtCell(...cell);
+    const chosen = found.find(({ line }) => this.selection.has(line)) || found[0];
     if (!chosen) {
       this.pressed.mode = "frame";
-      if (!isMore) this.select([]);
+      if (!isMore) this.selectLines([]);
       return;
     }
     this.pressed.mode = "move";
     if (isMore && this.selection.has(chosen.line))
-        this.select([...this.selection].filter((line) => line !== chosen.line));
-    else if (isMore) this.select([...this.selection, chosen.line]);
-    else if (!this.selection.has(chosen.line)) this.select([chosen.line]);
+        this.selectLines([...this.selection].filter((line) => line !== chosen.line));
+    else if (isMore) this.selectLines([...this.selection, chosen.line]);
+    else if (!this.selection.has(chosen.line)) this.selectLines([chosen.line]);
   }
 
   /** Shows the selection where it would be moved, and why it snapped to another place. */
   showMove([x, y]) {
     const { start: [u, v] } = this.pressed, parts = this.model.partsOfLines(this.selection);
-    const [dx, dy] = geometry.snapMove(parts, x - u, y - v);
+    const [dx, dy] = geometry.nearestSafeShift(parts, x - u, y - v);
     const moved = geometry.shiftedParts(parts, dx, dy), isSnapped = dx !== x - u || dy !== y - v;
     const [wanted] = geometry.shiftedParts(parts, x - u, y - v);
-    const why = isSnapped && parts.length === 1 ? geometry.fallReason(wanted.box) : null;
+    const why = isSnapped && parts.length === 1 ? geometry.instabilityReason(wanted.box) : null;
     this.pressed.move = [dx, dy];
     const words = why
       ? `Moved by (${x - u}, ${y - v}) the mirror would fall apart, since ${why}. It moves by (${dx}, ${dy}).`
       : `Moved by (${dx}, ${dy}).${isSnapped ? " Several parts move by whole blocks." : ""}`;
-    this.show({ parts: moved, reason: this.model.whyNoFit(moved, this.selection), time: this.steps, words,
+    this.showGhost({ parts: moved, reason: this.model.misfitReason(moved, this.selection), time: this.steps, words,
       wanted: why ? wanted.box : null });
   }
 
@@ -328,7 +331,7 @@ class Tools {
   selectInFrame([x, y, w, h], isMore) {
     const inside = this.model.parts.filter(({ box: [u, v, wide, high] }) =>
       u >= x && v >= y && u + wide <= x + w && v + high <= y + h);
-    this.select([...(isMore ? this.selection : []), ...inside.map(({ line }) => line)]);
+    this.selectLines([...(isMore ? this.selection : []), ...inside.map(({ line }) => line)]);
   }
 
   // ---- the selection
@@ -337,7 +340,7 @@ class Tools {
   nudge(dx, dy) {
     let lines = [...this.selection];
     if (lines.length === 0) return;
-    if (this.tryCommand(() => { lines = this.model.move(lines, dx, dy); })) this.select(lines);
+    if (this.tryCommand(() => { lines = this.model.move(lines, dx, dy); })) this.selectLines(lines);
   }
 
   /** Moves the selection one place on in a direction: by the least move that keeps its behaviour. */
@@ -350,7 +353,8 @@ class Tools {
   /** Rotates or reflects the selection. */
   rotateOrFlip(how) {
     let lines = [...this.selection];
-    if (lines.length && this.tryCommand(() => { lines = this.model.rotateOrFlip(lines, how); })) this.select(lines);
+    if (!lines.length) return;
+    if (this.tryCommand(() => { lines = this.model.rotateOrFlip(lines, how); })) this.selectLines(lines);
   }
 
   copy() {
@@ -368,25 +372,25 @@ class Tools {
       this.say("Nothing was copied.", true);
       return;
     }
-    this.choose("paste");
+    this.chooseTool("paste");
     if (this.onTool) this.onTool();
   }
 
   /** Removes the selection. */
-  remove() {
+  removeSelection() {
     if (this.selection.size === 0) return;
-    this.model.remove(this.selection);
-    this.select([]);
+    this.model.removeParts(this.selection);
+    this.selectLines([]);
   }
 
   /** Puts outputs and waste where the balls end, in the place of those that are there. */
-  async placeEnds() {
+  async placeOutsAndWastes() {
     const parts = await this.desk.ballEndParts();
     if (!parts) {
       this.say("This needs ways under all inputs, at most five inputs, and a circuit that can be read.", true);
       return;
     }
-    this.tryCommand(() => this.model.replaceEnds(parts));
+    this.tryCommand(() => this.model.replaceOutsAndWastes(parts));
   }
 }
 

@@ -1,15 +1,15 @@
 /** Opens, saves and exports texts, and keeps and offers drafts. */
 import { countWithNoun } from "../view/stage.js";
 import * as drafts from "./drafts.js";
-import { ask, debounced, element, newElement, showNotice } from "./page_parts.js";
+import { askInDialog, debounced, elementById, newElement, showNotice } from "./page_parts.js";
 import { server } from "./server_link.js";
 
-const DRAFT_DELAY = 250;
-const EXPORTS = { svg: ["SVG picture", "svg", "image/svg+xml"], golly: ["Golly pattern", "rle", "text/plain"],
+const DRAFT_DELAY_MILLISECONDS = 250;
+const EXPORT_FILE_TYPES = { svg: ["SVG picture", "svg", "image/svg+xml"], golly: ["Golly pattern", "rle", "text/plain"],
   page: ["page for a browser", "html", "text/html"] };
 
 /** Returns a list in which one can be chosen, with a name. */
-function choiceList(label, groups) {
+function labelledSelect(label, groups) {
   const list = newElement("select"), frame = newElement("label", `${label} `);
   for (const [title, options] of groups) {
     const group = newElement("optgroup");
@@ -34,19 +34,19 @@ class Files {
   hasOffer = false;
   keepSoon;
 
-  /** @param {Desk} desk @param {VerdictPanel} verdicts @param {(text: string, isBad?: boolean) => void} say */
+  /** @param {EditedLayout} desk @param {VerdictPanel} verdicts @param {(text: string, isBad?: boolean) => void} say */
   constructor(desk, verdicts, say) {
     this.desk = desk;
     this.verdicts = verdicts;
     this.say = say;
-    this.keepSoon = debounced(DRAFT_DELAY, () => this.keepDraft());
+    this.keepSoon = debounced(DRAFT_DELAY_MILLISECONDS, () => this.keepDraft());
     desk.listen("change", () => {
       this.showFileState();
       this.keepSoon();
     });
     for (const [id, action] of [["save", () => this.save()], ["open", () => this.askAndOpenFile()],
       ["new", () => this.askAndMakeLayout()],
-      ["export", () => this.askAndExport()]]) element(id).addEventListener("click", action);
+      ["export", () => this.askAndExport()]]) elementById(id).addEventListener("click", action);
     addEventListener("beforeunload", (event) => {
       this.keepDraft();
       if (this.isChanged) event.preventDefault();
@@ -59,16 +59,16 @@ class Files {
 
   showFileState() {
     const shown = `${this.name}${this.isChanged ? " *" : ""}`;
-    if (element("name").textContent !== shown) {
-      element("name").textContent = shown;
+    if (elementById("name").textContent !== shown) {
+      elementById("name").textContent = shown;
       document.title = `${this.isChanged ? "* " : ""}${this.name} · bbmlab studio`;
     }
-    element("undo").disabled = this.desk.model.past.length === 0;
-    element("redo").disabled = this.desk.model.future.length === 0;
+    elementById("undo").disabled = this.desk.model.past.length === 0;
+    elementById("redo").disabled = this.desk.model.future.length === 0;
   }
 
   /** Takes a file that the server read. */
-  takeFile({ name, text, digest }) {
+  switchToFile({ name, text, digest }) {
     this.name = name;
     this.digest = digest;
     this.saved = text;
@@ -131,7 +131,7 @@ class Files {
   // ---- save
 
   /** Puts the certificate that was checked into the text, if the text has none that got a yes. */
-  takeCertificate() {
+  insertCheckedCertificate() {
     const { verdicts, desk } = this, { verdict } = verdicts;
     if (!verdicts.isCurrent || verdict.verdict !== "yes" || verdict.by === "own") return;
     const place = verdict.bundle.indexOf("\ncertificate ") + 1;
@@ -142,12 +142,12 @@ class Files {
    * Asks whether the file gets the one spelling that the program reads, if the text has another. Returns whether to go
    * on.
    */
-  async chooseSpelling() {
+  async askAboutSpelling() {
     const { model } = this.desk, { text, comments } = await server.request("spelling", { text: model.text });
     if (text === undefined || text === model.text || this.isFree) return true;
     const more = comments ? `, with ${countWithNoun(comments, "comment", "comments")}` : "";
     const words = `The program reads texts of one spelling, and this is another one${more}.`;
-    const what = await ask("How to write the text", [newElement("p", words)], [
+    const what = await askInDialog("How to write the text", [newElement("p", words)], [
       ["write it as it is", () => "free"],
       [comments ? "write the one spelling, without comments" : "write the one spelling", () => "one"],
       ["cancel", () => null]]);
@@ -159,13 +159,13 @@ class Files {
   /** Writes the text to the file. */
   async save(name = this.name, isForced = false) {
     const { opened } = this;
-    this.takeCertificate();
-    if (!await this.chooseSpelling() || opened !== this.opened) return;
+    this.insertCheckedCertificate();
+    if (!await this.askAboutSpelling() || opened !== this.opened) return;
     const { text } = this.desk.model;
     const answer = await server.request("save", { name, text, digest: name === this.name ? this.digest : null,
       force: isForced });
     if (answer.changed && opened === this.opened) {
-      this.askAboutChange(name, answer);
+      this.askAboutChangedFile(name, answer);
       return;
     }
     if (answer.error) {
@@ -191,11 +191,11 @@ class Files {
   }
 
   /** Asks what to do with a file that changed since the page read it. */
-  async askAboutChange(name, { error }) {
+  async askAboutChangedFile(name, { error }) {
     const field = Object.assign(newElement("input"), { type: "text", value: name.replace(/(_\d+)?\.txt$/, "_2.txt"),
       ariaLabel: "Another name" });
-    const what = await ask("The file is another one now", [newElement("p", `${error}. Nothing was written.`), field],
-      [["write over it", () => "over"], ["save under this name", () => field.value],
+    const what = await askInDialog("The file is another one now", [newElement("p", `${error}. Nothing was written.`),
+      field], [["write over it", () => "over"], ["save under this name", () => field.value],
         ["open the file again", () => "again"], ["cancel", () => null]]);
     if (what === "over") this.save(name, true);
     else if (what === "again") this.openFile(name);
@@ -210,7 +210,7 @@ class Files {
     this.keepDraft();
     const answer = await server.request("open", { name });
     if (answer.error) this.say(answer.error, true);
-    else if (opened === this.opened) this.takeFile(answer);
+    else if (opened === this.opened) this.switchToFile(answer);
   }
 
   /** Asks which file to open. */
@@ -220,8 +220,8 @@ class Files {
       this.say(error, true);
       return;
     }
-    const { list, frame } = choiceList("File", [[this.folder, files.map((name) => [name, name])]]);
-    const name = await ask("Open a file of this folder",
+    const { list, frame } = labelledSelect("File", [[this.folder, files.map((name) => [name, name])]]);
+    const name = await askInDialog("Open a file of this folder",
       files.length ? [frame] : [newElement("p", "The folder has no .txt files.")],
       [...(files.length ? [["open", () => list.value]] : []), ["cancel", () => null]]);
     if (name) this.openFile(name);
@@ -229,13 +229,13 @@ class Files {
 
   /** Asks for a template and a name. */
   async askAndMakeLayout() {
-    const { list, frame } = choiceList("Begin with", [["Empty", [["empty", "an empty layout"]]],
+    const { list, frame } = labelledSelect("Begin with", [["Empty", [["empty", "an empty layout"]]],
       ["Standard cells", this.templates.filter((name) => name !== "empty").map((name) => [name, name])],
       ["Examples", this.examples.map((name) => [`example ${name}`, name])]]);
     const field = Object.assign(newElement("input"), { type: "text", value: "new.txt" });
     const label = newElement("label", "File ");
     label.append(field);
-    const chosen = await ask("New layout", [frame, label],
+    const chosen = await askInDialog("New layout", [frame, label],
       [["make", () => [list.value, field.value]], ["cancel", () => null]]);
     if (!chosen) return;
     const answer = await server.request("template", { name: chosen[0] });
@@ -253,14 +253,14 @@ class Files {
       return;
     }
     this.keepDraft();
-    this.takeFile({ name: chosen[1], text: answer.text, digest: null });
+    this.switchToFile({ name: chosen[1], text: answer.text, digest: null });
   }
 
   /** Asks for a form, and downloads the text in it. */
   async askAndExport() {
-    const forms = Object.entries(EXPORTS).map(([form, [title]]) => [form, title]);
-    const { list, frame } = choiceList("As", [["Forms", forms]]);
-    const form = await ask("Export", [frame], [["export", () => list.value], ["cancel", () => null]]);
+    const forms = Object.entries(EXPORT_FILE_TYPES).map(([form, [title]]) => [form, title]);
+    const { list, frame } = labelledSelect("As", [["Forms", forms]]);
+    const form = await askInDialog("Export", [frame], [["export", () => list.value], ["cancel", () => null]]);
     if (!form) return;
     const { verdicts, desk } = this, { verdict } = verdicts;
     const bundle = verdicts.isCurrent && ["yes", "no"].includes(verdict.verdict) ? verdict.bundle : "";
@@ -270,7 +270,7 @@ class Files {
       this.say(answer.error || "Nothing was exported: another export was begun.", true);
       return;
     }
-    const [, ending, type] = EXPORTS[form], link = newElement("a");
+    const [, ending, type] = EXPORT_FILE_TYPES[form], link = newElement("a");
     link.href = URL.createObjectURL(new Blob([answer.text], { type }));
     link.download = this.name.replace(/\.txt$/, "") + `.${ending}`;
     link.click();

@@ -20,7 +20,7 @@ class FolderError(Exception):
     """A file that may not be read or written, or cannot be. The message is for the user."""
 
 
-class ChangedError(FolderError):
+class StaleFileError(FolderError):
     """A file that is no longer as the page read it. `digest` is that of the file now, or None if it is missing."""
 
     def __init__(self, message: str, digest: str | None) -> None:
@@ -28,17 +28,17 @@ class ChangedError(FolderError):
         self.digest = digest
 
 
-def digest_of(data: bytes) -> str:
+def digest_of_bytes(data: bytes) -> str:
     """Returns the SHA-256 of a file's bytes."""
     return hashlib.sha256(data).hexdigest()
 
 
-def text_of(data: bytes) -> str:
+def decode_page_text(data: bytes) -> str:
     """Returns bytes as the page has them: UTF-8, with lone surrogates for bytes of no character."""
     return data.decode("utf-8", "surrogateescape")
 
 
-def bytes_of(text: str) -> bytes:
+def encode_page_text(text: str) -> bytes:
     """Returns the bytes of a text of the page."""
     try:
         return text.encode("utf-8", "surrogateescape")
@@ -54,7 +54,7 @@ class Folder:
         self.place, self.name = path.parent, path.name
         self.lock = threading.Lock()
 
-    def names(self) -> list[str]:
+    def list_file_names(self) -> list[str]:
         """Returns the `.txt` files of the folder that can be opened, and the opened file if it exists."""
         try:
             found = {entry.name for entry in os.scandir(self.place) if FILE_NAME_PATTERN.match(entry.name)
@@ -98,24 +98,24 @@ class Folder:
         """Writes a file through one beside it, and returns its digest. `known` is the digest of the file as the page
         has read it.
 
-        Raises ChangedError if the file is another one now, unless the user has said that it may be replaced.
+        Raises StaleFileError if the file is another one now, unless the user has said that it may be replaced.
         """
         path = self.path_of(name)
         with self.lock:
             old = self.read(name)
-            now = None if old is None else digest_of(old)
-            if now != known and now != digest_of(data) and not is_forced:
-                raise ChangedError(
+            now = None if old is None else digest_of_bytes(old)
+            if now != known and now != digest_of_bytes(data) and not is_forced:
+                raise StaleFileError(
                     f"{name} {'is missing now' if now is None else 'changed meanwhile' if known else 'exists already'}",
                     now)
             try:
                 replace_file(str(path), data, None if is_forced else old, follows=False)
             except ChangedFileError as error:
                 os.unlink(error.kept)
-                raise ChangedError(f"{name} changed meanwhile", None) from error
+                raise StaleFileError(f"{name} changed meanwhile", None) from error
             except OSError as error:
                 raise FolderError(f"{name}: {error.strerror or error}") from error
-        return digest_of(data)
+        return digest_of_bytes(data)
 
 
 def unused_path(folder: Path) -> Path:

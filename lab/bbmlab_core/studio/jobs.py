@@ -56,7 +56,7 @@ class JobWorker:
         answer: dict[str, Any] = json.loads(found)
         return answer
 
-    def end(self) -> None:
+    def end_process(self) -> None:
         """Asks the process to end with the program that it runs, and kills it if it does not."""
         self.is_ended = True
         try:
@@ -66,7 +66,7 @@ class JobWorker:
             self.process.kill()
             self.process.wait()
 
-    def how_ended(self) -> str:
+    def describe_ending(self) -> str:
         """Says how the process ended, or that it is still there."""
         try:
             status = self.process.wait(GRACE_SECONDS)
@@ -90,7 +90,7 @@ class JobWorker:
                     pass
 
 
-class Jobs:
+class JobQueue:
     """The jobs of all tabs. A tab's newer job ends its older one; jobs of other tabs wait."""
 
     def __init__(self, program: Executable | str, seconds: float, memory: int) -> None:
@@ -110,36 +110,36 @@ class Jobs:
             ticket = self.newest[tab] = self.count
             old = self.worker if self.running == tab else None
         if old:
-            old.end()
+            old.end_process()
         with self.turn:
             with self.lock:
                 if self.newest[tab] != ticket or self.is_closed:
                     return {"replaced": True}
                 self.running = tab
-                worker = self.worker = self.worker if self.worker and not self.worker.is_ended else self.start_worker()
+                worker = self.worker = self.worker if self.worker and not self.worker.is_ended else self.new_worker()
             try:
                 found = worker.answer(job, self.seconds + MORE_SECONDS)
                 is_good = found is not None and not worker.is_ended and self.newest[tab] == ticket
-                return found if found is not None and is_good else self.end_and_explain(worker, tab, ticket)
+                return found if found is not None and is_good else self.end_worker_and_explain(worker, tab, ticket)
             finally:
                 with self.lock:
                     self.running = None
 
-    def start_ahead(self) -> None:
+    def start_worker_ahead(self) -> None:
         """Starts the process, so that the first job need not wait for it."""
         with self.turn, self.lock:
             if self.worker is None and not self.is_closed:
-                self.worker = self.start_worker()
+                self.worker = self.new_worker()
 
-    def start_worker(self) -> JobWorker:
+    def new_worker(self) -> JobWorker:
         """Returns a new process."""
         return JobWorker(self.program, self.seconds, self.memory)
 
-    def end_and_explain(self, worker: JobWorker, tab: str, ticket: int) -> dict[str, Any]:
+    def end_worker_and_explain(self, worker: JobWorker, tab: str, ticket: int) -> dict[str, Any]:
         """Ends a process that gave no answer, and says why there is none."""
         was_replaced = worker.is_ended or self.newest[tab] != ticket
-        ended = "" if was_replaced or worker.is_late else worker.how_ended()
-        worker.end()
+        ended = "" if was_replaced or worker.is_late else worker.describe_ending()
+        worker.end_process()
         worker.close_pipes()
         if was_replaced:
             return {"replaced": True}
@@ -152,6 +152,6 @@ class Jobs:
             self.is_closed = True
             worker, is_idle = self.worker, self.running is None
         if worker:
-            worker.end()
+            worker.end_process()
             if is_idle:
                 worker.close_pipes()

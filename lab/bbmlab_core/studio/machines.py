@@ -10,7 +10,7 @@ from dataclasses import dataclass, replace
 from ..host.terminal import LabError
 from ..joining.flight_claims import pop_flight_ranges
 from ..joining.lone_ways import whole_balls_of
-from ..joining.parts import part_footprint, start_ports
+from ..joining.parts import part_footprint, start_ports_and_fault
 from ..pictures.drawing import wire_tables_and_column
 from ..route.balls import Ball, block_corner, start_state, state_after_step
 from ..route.world import ROW_STRIDE, STEP_STRIDE, Footprint, cell_number
@@ -38,7 +38,7 @@ class MachineRun:
         assert layout
         self.layout, self.mirrors = layout, layout.mirror_cells()
         self.tables, self.full, _ = wire_tables_and_column(document, [])
-        self.starts, fault = start_ports(layout)
+        self.starts, fault = start_ports_and_fault(layout)
         if fault:
             raise LabError(f"{fault[:1].upper()}{fault[1:]}, and only these can be led.")
         self.root = list(range(len(self.starts)))

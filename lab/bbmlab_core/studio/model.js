@@ -8,10 +8,10 @@ import * as limits from "../view/limits.js";
 import * as circuitText from "./circuit_text.js";
 import * as geometry from "./geometry.js";
 
-const { wordsOf, withoutByteOrderMark } = circuitText;
-const KINDS = ["mirror", "ball", "in", "out", "waste"];
-const NUMBER_COUNTS = { mirror: 4, ball: 2, in: 2, out: 2, waste: 2 };
-const NAME = /^[a-z][a-z0-9_]{0,31}$/, NUMBER = /^(0|[1-9][0-9]{0,8})$/;
+const { lineWords, withoutByteOrderMark } = circuitText;
+const PART_KINDS = ["mirror", "ball", "in", "out", "waste"];
+const NUMBER_COUNT_BY_KIND = { mirror: 4, ball: 2, in: 2, out: 2, waste: 2 };
+const NAME_PATTERN = /^[a-z][a-z0-9_]{0,31}$/, NUMBER = /^(0|[1-9][0-9]{0,8})$/;
 const LINE_PATTERN = /^(\ufeff?[ \t]*)([^#]*?)([ \t\r]*(?:#.*)?)$/s;
 
 /** A command that cannot be done. The message is for the user. */
@@ -29,7 +29,7 @@ function refusalAfterTrying(command) {
 }
 
 /** Returns the first word of a line, without a comment. */
-const firstWord = (line) => wordsOf(line)[0] ?? "";
+const firstWord = (line) => lineWords(line)[0] ?? "";
 
 // The parts of the lines that were read, since an edit changes few of many lines.
 const partsByText = new Map(), MAX_KNOWN = 200000;
@@ -47,22 +47,22 @@ function partOfLine(text, line) {
 
 /** Returns the part that a line names, without its place, or null. */
 function parsePart(text) {
-  const words = wordsOf(text), kind = words[0], hasName = kind === "in" || kind === "out";
-  if (!KINDS.includes(kind) || words.length !== 1 + NUMBER_COUNTS[kind] + Number(hasName)) return null;
+  const words = lineWords(text), kind = words[0], hasName = kind === "in" || kind === "out";
+  if (!PART_KINDS.includes(kind) || words.length !== 1 + NUMBER_COUNT_BY_KIND[kind] + Number(hasName)) return null;
   const numbers = words.slice(hasName ? 2 : 1);
-  if (!numbers.every((word) => NUMBER.test(word)) || hasName && !NAME.test(words[1])) return null;
+  if (!numbers.every((word) => NUMBER.test(word)) || hasName && !NAME_PATTERN.test(words[1])) return null;
   const [x, y, w = 1, h = 1] = numbers.map(Number);
   return w < 1 || h < 1 ? null : { kind, name: hasName ? words[1] : null, box: [x, y, w, h], line: -1 };
 }
 
 /** Returns the line of a part. */
-function lineText({ kind, name, box }) {
+function partLine({ kind, name, box }) {
   return [kind, ...(name === null || name === undefined ? [] : [name]),
     ...(kind === "mirror" ? box : box.slice(0, 2))].join(" ");
 }
 
 /** Returns a line with other words; its indentation and comment stay. */
-function withOtherWords(text, words) {
+function lineWithOtherWords(text, words) {
   const [, before, , after] = LINE_PATTERN.exec(text);
   return before + words + after;
 }
@@ -80,7 +80,7 @@ function spliceBetween(old, fresh) {
 const partTitle = ({ kind, name, box }) => `${kind}${name ? ` ${name}` : ""} at (${box[0]}, ${box[1]})`;
 
 /** Files a part under each of its rows. */
-function fileByRows(rows, part) {
+function indexPartByRows(rows, part) {
   const [, y, , h] = part.box;
   for (let v = y; v < y + h; v += 1) {
     if (!rows.has(v)) rows.set(v, []);
@@ -92,14 +92,14 @@ function fileByRows(rows, part) {
  * Whether two kinds take cells at one time: at the start mirrors, balls and inputs, at the end mirrors, outputs and
  * waste.
  */
-const isRival = (one, other) => one === "mirror" || other === "mirror"
+const areRivalKinds = (one, other) => one === "mirror" || other === "mirror"
   || (one === "out" || one === "waste") === (other === "out" || other === "waste");
 
 /** Returns a filed part that takes a cell of a part, or null. */
-function takerOf({ kind, box: [x, y, w, h] }, rows, gone) {
+function conflictingPart({ kind, box: [x, y, w, h] }, rows, gone) {
   for (let v = y; v < y + h; v += 1) {
     for (const other of rows.get(v) || []) {
-      if (x < other.box[0] + other.box[2] && other.box[0] < x + w && isRival(kind, other.kind)
+      if (x < other.box[0] + other.box[2] && other.box[0] < x + w && areRivalKinds(kind, other.kind)
           && !gone.has(other.line)) return other;
     }
   }
@@ -109,7 +109,7 @@ function takerOf({ kind, box: [x, y, w, h] }, rows, gone) {
 /** Returns the first cell that two parts share. */
 const sharedCell = ({ box: [x, y] }, { box: [u, v] }) => [Math.max(x, u), Math.max(y, v)];
 
-class Model {
+class LayoutModel {
   lines;
   past = [];
   future = [];
@@ -131,7 +131,7 @@ class Model {
   /** @param {string} text */
   constructor(text) {
     this.lines = text.split("\n");
-    this.read();
+    this.parseLines();
   }
 
   /** The text, which is made once for each list of lines. */
@@ -150,7 +150,7 @@ class Model {
    * Reads the lines: where the layout begins and ends, its header and its parts, and the circuit. Each time these are
    * new objects.
    */
-  read() {
+  parseLines() {
     const start = this.lines.findIndex((line, index) =>
       line.includes("layout") && firstWord(index ? line : withoutByteOrderMark(line)) === "layout");
     const end = start < 0 ? -1
@@ -162,8 +162,9 @@ class Model {
     this.end = start < 0 ? this.lines.length : end < 0 ? this.lines.length - Number(this.lines.at(-1) === "") : end;
     this.after = this.end + Number(isClosed);
     // The first lines of a long text are those of its circuit, so the first line with words is near.
-    this.limits = limits.limitsOf(
-      wordsOf(withoutByteOrderMark(this.lines.find((line) => wordsOf(withoutByteOrderMark(line)).length > 0) || "")));
+    this.limits = limits.limitsByFirstLine(
+      lineWords(withoutByteOrderMark(this.lines.find((line) => lineWords(withoutByteOrderMark(line)).length > 0)
+      || "")));
     this.parts = [];
     this.filed = null;
     for (let line = start + 1; start >= 0 && line < this.end; line += 1) {
@@ -182,7 +183,7 @@ class Model {
   /** Returns the size and the steps of the layout, or null if they are no numbers within the limits. */
   readHeader() {
     const words = this.start < 0 ? []
-      : wordsOf(this.start ? this.lines[this.start] : withoutByteOrderMark(this.lines[0]));
+      : lineWords(this.start ? this.lines[this.start] : withoutByteOrderMark(this.lines[0]));
     if (words.length !== 4 || !words.slice(1).every((word) => NUMBER.test(word))) return null;
     const [width, height, steps] = words.slice(1).map(Number);
     const isSide = (side) => side % 2 === 0 && side >= 2 && side <= this.limits.maxSide;
@@ -230,7 +231,7 @@ class Model {
   }
 
   /** Returns the parts that have a cell, the last line first. */
-  partsOn(x, y) {
+  partsAtCell(x, y) {
     return this.parts.filter(({ box: [u, v, w, h] }) => x >= u && y >= v && x < u + w && y < v + h).reverse();
   }
 
@@ -238,7 +239,7 @@ class Model {
    * Returns where lines are after the last change, which is taken into account once. If a change put more or fewer
    * lines in the place of some, these are left out.
    */
-  takeMovedLines(lines) {
+  takeNewLineNumbers(lines) {
     const { at, removed, added } = this.shift || { at: 0, removed: 0, added: 0 };
     this.shift = null;
     if (added === removed) return [...lines];
@@ -252,7 +253,7 @@ class Model {
   applySplice({ at, removed, added }) {
     this.shift = { at, removed: removed.length, added: added.length };
     this.lines = [...this.lines.slice(0, at), ...added, ...this.lines.slice(at + removed.length)];
-    this.read();
+    this.parseLines();
   }
 
   /** Takes new lines as a command. Commands with one `merge` word that follow each other are undone together. */
@@ -302,7 +303,7 @@ class Model {
    * returns.
    * @param {string} label @param {(rows: {text: string}[]) => {text: string}[]} change
    */
-  edit(label, change) {
+  editRows(label, change) {
     const rows = this.lines.map((text) => ({ text })), touched = new Set(change(rows));
     this.commit(rows.map(({ text }) => text), label);
     return rows.flatMap((row, line) => (touched.has(row) ? [line] : []));
@@ -315,7 +316,7 @@ class Model {
    * @param {Part[]} parts
    * @param {Iterable<number>} without lines that go away
    */
-  whyNoFit(parts, without = []) {
+  misfitReason(parts, without = []) {
     if (!this.header) return "The text has no layout whose size is allowed.";
     const { width, height } = this.header, gone = new Set(without);
     for (const part of parts) {
@@ -323,15 +324,15 @@ class Model {
       if (x < 0 || y < 0 || x + w > width || y + h > height)
           return `${partTitle(part)} is outside the layout of ${width} by ${height} cells.`;
       if (part.name !== null && part.name !== undefined
-          && !NAME.test(part.name)) return `\`${part.name}\` is no name of a wire.`;
+          && !NAME_PATTERN.test(part.name)) return `\`${part.name}\` is no name of a wire.`;
     }
     const fresh = new Map();
     for (const part of parts) {
-      const other = takerOf(part, this.partsByRow(), gone);
+      const other = conflictingPart(part, this.partsByRow(), gone);
       if (other) return `Cell (${sharedCell(part, other).join(", ")}) is taken by the ${partTitle(other)}.`;
-      const twin = takerOf(part, fresh, new Set());
+      const twin = conflictingPart(part, fresh, new Set());
       if (twin) return `Two of the parts take cell (${sharedCell(part, twin).join(", ")}).`;
-      fileByRows(fresh, part);
+      indexPartByRows(fresh, part);
     }
     return null;
   }
@@ -340,21 +341,23 @@ class Model {
   partsByRow() {
     if (!this.filed) {
       this.filed = new Map();
-      for (const part of this.parts) if (part.box[1] + part.box[3] <= this.limits.maxSide) fileByRows(this.filed, part);
+      for (const part of this.parts) {
+        if (part.box[1] + part.box[3] <= this.limits.maxSide) indexPartByRows(this.filed, part);
+      }
     }
     return this.filed;
   }
 
   /** Raises the reason why parts cannot be in the layout. */
   requireFit(parts, without = []) {
-    const reason = this.whyNoFit(parts, without);
+    const reason = this.misfitReason(parts, without);
     if (reason) throw new ModelRefusal(reason);
   }
 
   /** Adds parts, each behind the last part of its kind, and returns the numbers of their lines. */
-  add(parts, label = "add") {
+  addParts(parts, label = "add") {
     this.requireFit(parts);
-    return this.edit(label, (rows) => this.insertPartLines(rows, parts));
+    return this.editRows(label, (rows) => this.insertPartLines(rows, parts));
   }
 
   /**
@@ -370,7 +373,7 @@ class Model {
     if (isRead && kind === "out" && names.has(name) && !used.has(name)) lines.push(`output ${name}`);
     if (isRead && kind === "in" && names.has(name)
         && !inputs.includes(name)) throw new ModelRefusal(`\`${name}\` is no input of the circuit.`);
-    return this.edit(kind, (rows) => {
+    return this.editRows(kind, (rows) => {
       const added = this.insertPartLines(rows, parts);
       circuitText.joinCircuit(rows, this.start, lines, new Map());
       return added;
@@ -378,10 +381,10 @@ class Model {
   }
 
   /** Puts other outputs and waste cells in the place of all of them. */
-  replaceEnds(parts) {
+  replaceOutsAndWastes(parts) {
     const old = new Set(this.parts.filter(({ kind }) => kind === "out" || kind === "waste").map(({ line }) => line));
     this.requireFit(parts, old);
-    this.edit("outputs", (rows) => {
+    this.editRows("outputs", (rows) => {
       const gone = new Set([...old].map((line) => rows[line]));
       this.insertPartLines(rows, parts);
       rows.splice(0, rows.length, ...rows.filter((row) => !gone.has(row)));
@@ -391,10 +394,11 @@ class Model {
 
   /** Puts rows for parts behind the last part of their kind, or of a kind that comes before it. */
   insertPartLines(rows, parts) {
-    const end = wordsOf(this.lines[this.start]).length && this.lines[this.start].endsWith("\r") ? "\r" : "", added = [];
-    for (const kind of [...KINDS].reverse()) {
-      const fresh = parts.filter((part) => part.kind === kind).map((part) => ({ text: lineText(part) + end }));
-      const before = this.parts.filter((part) => KINDS.indexOf(part.kind) <= KINDS.indexOf(kind))
+    const added = [];
+    const end = lineWords(this.lines[this.start]).length && this.lines[this.start].endsWith("\r") ? "\r" : "";
+    for (const kind of [...PART_KINDS].reverse()) {
+      const fresh = parts.filter((part) => part.kind === kind).map((part) => ({ text: partLine(part) + end }));
+      const before = this.parts.filter((part) => PART_KINDS.indexOf(part.kind) <= PART_KINDS.indexOf(kind))
         .map(({ line }) => line);
       rows.splice(Math.max(this.start, ...before) + 1, 0, ...fresh);
       added.push(...fresh);
@@ -403,9 +407,9 @@ class Model {
   }
 
   /** Removes the parts of some lines. */
-  remove(lines) {
+  removeParts(lines) {
     const gone = new Set(this.partsOfLines(lines).map(({ line }) => line));
-    this.edit("remove", (rows) => {
+    this.editRows("remove", (rows) => {
       rows.splice(0, rows.length, ...rows.filter((_, line) => !gone.has(line)));
       return [];
     });
@@ -415,25 +419,27 @@ class Model {
    * Puts other parts in the place of parts, each on its own line, and returns the numbers of the lines.
    * @param {Part[]} parts
    */
-  replace(parts, label = "change") {
+  replaceParts(parts, label = "change") {
     this.requireFit(parts, parts.map(({ line }) => line));
-    return this.edit(label, (rows) => parts.map((part) => {
-      rows[part.line].text = withOtherWords(rows[part.line].text, lineText(part));
+    return this.editRows(label, (rows) => parts.map((part) => {
+      rows[part.line].text = lineWithOtherWords(rows[part.line].text, partLine(part));
       return rows[part.line];
     }));
   }
 
   /** Moves the parts of some lines. */
-  move(lines, dx, dy) { return this.replace(geometry.shiftedParts(this.partsOfLines(lines), dx, dy), "move"); }
+  move(lines, dx, dy) { return this.replaceParts(geometry.shiftedParts(this.partsOfLines(lines), dx, dy), "move"); }
 
   /** Rotates or reflects the parts of some lines about their frame. */
-  rotateOrFlip(lines, how) { return this.replace(geometry.rotatedOrFlippedParts(this.partsOfLines(lines), how), how); }
+  rotateOrFlip(lines, how) {
+    return this.replaceParts(geometry.rotatedOrFlippedParts(this.partsOfLines(lines), how), how);
+  }
 
   /** Gives the ports of some lines another wire. */
-  rename(lines, name) {
-    if (!NAME.test(name)) throw new ModelRefusal(`\`${name}\` is no name of a wire.`);
+  renamePorts(lines, name) {
+    if (!NAME_PATTERN.test(name)) throw new ModelRefusal(`\`${name}\` is no name of a wire.`);
     const renamed = (part) => (part.name === null ? part : { ...part, name });
-    return this.replace(this.partsOfLines(lines).map(renamed), "rename");
+    return this.replaceParts(this.partsOfLines(lines).map(renamed), "rename");
   }
 
   // ---- the layout as a whole
@@ -456,9 +462,9 @@ class Model {
     if (outside)
         throw new ModelRefusal(`${partTitle(outside)} would be outside the layout of ${width} by ${height} cells.`);
     if (fresh.length) this.requireFit(fresh, flying.map(({ line }) => line));
-    this.edit("size", (rows) => {
-      rows[this.start].text = withOtherWords(rows[this.start].text, `layout ${width} ${height} ${steps}`);
-      for (const part of fresh) rows[part.line].text = withOtherWords(rows[part.line].text, lineText(part));
+    this.editRows("size", (rows) => {
+      rows[this.start].text = lineWithOtherWords(rows[this.start].text, `layout ${width} ${height} ${steps}`);
+      for (const part of fresh) rows[part.line].text = lineWithOtherWords(rows[part.line].text, partLine(part));
       return [];
     });
   }
@@ -476,11 +482,10 @@ class Model {
     const most = Math.max(wide, high);
     if (most > limits.SECOND_LIMITS.maxSide)
         throw new ModelRefusal(`A side is at most ${limits.SECOND_LIMITS.maxSide} cells.`);
-    this.edit("enlarge", (rows) => {
-      rows[this.start].text = withOtherWords(rows[this.start].text, `layout ${wide} ${high} ${steps}`);
+    this.editRows("enlarge", (rows) => {
+      rows[this.start].text = lineWithOtherWords(rows[this.start].text, `layout ${wide} ${high} ${steps}`);
       for (const part of geometry.shiftedParts(this.parts, left, above))
-          rows[part.line].text = withOtherWords(rows[part.line].text,
-          lineText(part));
+          rows[part.line].text = lineWithOtherWords(rows[part.line].text, partLine(part));
       if (most > this.limits.maxSide) {
         rows[0].text = withoutByteOrderMark(rows[0].text);
         rows.unshift({ text: limits.SECOND_LIMITS.line });
@@ -518,9 +523,9 @@ class Model {
       ? this.parts.filter(({ kind }) => kind === "out" || kind === "waste") : [];
     const fresh = geometry.flownParts(flying, this.header.steps, steps - this.header.steps);
     this.requireFit([...parts, ...fresh], flying.map(({ line }) => line));
-    return this.edit("cell", (rows) => {
-      for (const part of fresh) rows[part.line].text = withOtherWords(rows[part.line].text, lineText(part));
-      if (hasWires) rows[this.start].text = withOtherWords(rows[this.start].text,
+    return this.editRows("cell", (rows) => {
+      for (const part of fresh) rows[part.line].text = lineWithOtherWords(rows[part.line].text, partLine(part));
+      if (hasWires) rows[this.start].text = lineWithOtherWords(rows[this.start].text,
           `layout ${this.header.width} ${this.header.height} ${steps}`);
       const added = this.insertPartLines(rows, parts);
       if (hasWires) circuitText.joinCircuit(rows, this.start, circuit, names);
@@ -545,4 +550,4 @@ function standardCellParts(layout, x, y, nameOf, steps) {
   return geometry.shiftedParts([...firm, ...ins, ...flown], x, y);
 }
 
-export { Model, ModelRefusal, standardCellParts, refusalAfterTrying };
+export { LayoutModel, ModelRefusal, standardCellParts, refusalAfterTrying };

@@ -1,8 +1,8 @@
 /** Small helpers for elements of the page and its dialog. Texts are set as text, never as HTML. */
-import { element, newElement } from "../view/boxes.js";
+import { elementById, newElement } from "../view/boxes.js";
 
 /** Returns a new button. */
-function button(text, action, className = "") {
+function newButton(text, action, className = "") {
   const found = newElement("button", text, className);
   found.type = "button";
   found.addEventListener("click", action);
@@ -10,7 +10,7 @@ function button(text, action, className = "") {
 }
 
 /** Appends a text in which words between backticks are code. */
-function appendWords(parent, text) {
+function appendTextWithCode(parent, text) {
   text.split("`").forEach((part, index) => parent.append(index % 2 ? newElement("code", part) : part));
   return parent;
 }
@@ -31,14 +31,14 @@ let cancelAsked = () => {};
  * Asks something in the dialog, and resolves to the value of the button that is pressed, or to null.
  * @returns {Promise<any>}
  */
-function ask(title, body, choices) {
-  const dialog = element("dialog");
+function askInDialog(title, body, choices) {
+  const dialog = elementById("dialog");
   if (dialog.open) {
     dialog.close();
     cancelAsked();
   }
-  element("dialog-title").textContent = title;
-  element("dialog-body").replaceChildren(...body);
+  elementById("dialog-title").textContent = title;
+  elementById("dialog-body").replaceChildren(...body);
   return new Promise((resolve) => {
     const end = (value) => {
       dialog.onclose = null;
@@ -48,19 +48,20 @@ function ask(title, body, choices) {
     cancelAsked = () => resolve(null);
     // The event of a dialog that was open before comes late: this one is open then.
     dialog.onclose = () => { if (!dialog.open) resolve(null); };
-    element("dialog-buttons").replaceChildren(...choices.map(([text, value]) => button(text, () => end(value()))));
+    elementById("dialog-buttons").replaceChildren(
+      ...choices.map(([text, value]) => newButton(text, () => end(value()))));
     dialog.showModal();
   });
 }
 
 /** Shows a text above the page, with buttons, or nothing. */
 function showNotice(text, choices = []) {
-  const box = element("notice");
+  const box = elementById("notice");
   box.hidden = text === "";
-  box.replaceChildren(text, ...choices.map(([words, action]) => button(words, () => {
+  box.replaceChildren(text, ...choices.map(([words, action]) => newButton(words, () => {
     box.hidden = true;
     action();
   })));
 }
 
-export { element, newElement, button, appendWords, debounced, ask, showNotice };
+export { elementById, newElement, newButton, appendTextWithCode, debounced, askInDialog, showNotice };

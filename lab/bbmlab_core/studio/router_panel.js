@@ -3,10 +3,10 @@
  * and the tool that leads the ball of an output to an input.
  */
 import { countWithNoun } from "../view/stage.js";
-import { ask, button, element, newElement } from "./page_parts.js";
+import { askInDialog, newButton, elementById, newElement } from "./page_parts.js";
 import { server } from "./server_link.js";
 
-const SECONDS = 60, CONNECT_SECONDS = 60;
+const ROUTE_SECONDS = 60, CONNECT_SECONDS = 60;
 
 /** Returns a field for a number with its words. */
 function numberField(words, value, least, most) {
@@ -22,15 +22,15 @@ class RouterPanel {
   isRunning = false;
   seed = 1;
 
-  /** @param {Desk} desk @param {(text: string, isBad?: boolean) => void} say */
+  /** @param {EditedLayout} desk @param {(text: string, isBad?: boolean) => void} say */
   constructor(desk, say) {
     this.desk = desk;
     this.say = say;
-    element("route").addEventListener("click", () => this.askAndBegin());
+    elementById("route").addEventListener("click", () => this.askAndRoute());
   }
 
   /** Asks how long to search, and begins. */
-  async askAndBegin() {
+  async askAndRoute() {
     const { circuit } = this.desk;
     if (this.isRunning) {
       this.say("A search is running.");
@@ -40,21 +40,22 @@ class RouterPanel {
       this.say("The circuit cannot be read, or has no outputs: there is nothing to route.", true);
       return;
     }
-    const seconds = numberField("seconds", SECONDS, 1, 3600), seed = numberField("seed", this.seed, 0, 2147483647);
+    const seconds = numberField("seconds", ROUTE_SECONDS, 1, 3600);
+    const seed = numberField("seed", this.seed, 0, 2147483647);
     const gates = countWithNoun(circuit.gates.length, "gate", "gates");
     const words = `The lab searches a layout for the circuit with ${gates}. `
       + "It takes the place of the text; undo brings the old one back.";
-    const wanted = await ask("Route the circuit", [newElement("p", words), seconds.label, seed.label],
+    const wanted = await askInDialog("Route the circuit", [newElement("p", words), seconds.label, seed.label],
       [["route", () => [Number(seconds.field.value), Number(seed.field.value)]], ["cancel", () => null]]);
-    if (wanted) this.begin(...wanted);
+    if (wanted) this.routeCircuit(...wanted);
   }
 
   /** Begins a search for a layout. */
-  async begin(seconds, seed) {
+  async routeCircuit(seconds, seed) {
     this.seed = seed + 1;
     const head = this.desk.model.headText;
-    const answer = await this.search("route", { text: `${head}\n`, seconds, seed }, "Routing");
-    this.takeResult(answer, () => this.desk.model.headText === head, { label: "route", none: "There is no route.",
+    const answer = await this.runSearch("route", { text: `${head}\n`, seconds, seed }, "Routing");
+    this.applyResult(answer, () => this.desk.model.headText === head, { label: "route", none: "There is no route.",
       done: () => "Routed. The verdict is asked for the text as it is now." });
   }
 
@@ -65,19 +66,19 @@ class RouterPanel {
       return;
     }
     const { text } = this.desk.model, wanted = { text, seconds: CONNECT_SECONDS, seed: 1, output, input };
-    const answer = await this.search("connect", wanted, `Leading the ball of ${output} to ${input}`);
-    this.takeResult(answer, () => this.desk.model.text === text,
+    const answer = await this.runSearch("connect", wanted, `Leading the ball of ${output} to ${input}`);
+    this.applyResult(answer, () => this.desk.model.text === text,
       { label: "connect", none: "Nothing is changed.", done: (said) => said.at(-1) });
   }
 
   /** Begins a search, and shows what it does until it ends. Returns its last answer. */
-  async search(name, wanted, words) {
+  async runSearch(name, wanted, words) {
     this.isRunning = true;
-    this.show("Begins…");
+    this.showProgress("Begins…");
     let answer = await server.request(name, wanted);
     while (answer.state === "runs") {
       const [about = ""] = answer.said;
-      this.show(`${words} since ${Math.floor(answer.seconds)} of ${wanted.seconds} s. ${about}`);
+      this.showProgress(`${words} since ${Math.floor(answer.seconds)} of ${wanted.seconds} s. ${about}`);
       answer = await server.request("routed");
     }
     this.isRunning = false;
@@ -86,18 +87,18 @@ class RouterPanel {
   }
 
   /** Shows the progress, with a button that ends the search. */
-  show(text) {
-    const box = element("routing");
+  showProgress(text) {
+    const box = elementById("routing");
     if (box.hidden) box.replaceChildren(newElement("span"),
-      button("cancel", () => { server.request("unroute"); }, "cancel"));
+      newButton("cancel", () => { server.request("unroute"); }, "cancel"));
     box.hidden = false;
     box.firstChild.textContent = text;
   }
 
-  hide() { element("routing").hidden = true; }
+  hide() { elementById("routing").hidden = true; }
 
   /** Takes the text that was found, or says why there is none. If the text is another one now, it asks first. */
-  async takeResult({ state, text, said = [], error }, isCurrent, { label, none, done }) {
+  async applyResult({ state, text, said = [], error }, isCurrent, { label, none, done }) {
     if (state !== "found") {
       const why = error || (state === "cancelled" ? "The search was cancelled."
         : `${none} ${said.filter((line) => !/first side|verdict yes/.test(line)).join(" ")}`);
@@ -105,7 +106,7 @@ class RouterPanel {
       return;
     }
     if (!isCurrent()) {
-      const isTaken = await ask("The text has changed",
+      const isTaken = await askInDialog("The text has changed",
         [newElement("p", "What was found is of the circuit and the layout as they were when the search began.")],
         [["take it in place of the text", () => true], ["keep the text", () => false]]);
       if (!isTaken) return;

@@ -18,18 +18,17 @@ from .guard import MAX_REQUEST_BYTES, Denied, Guard
 HOST = "127.0.0.1"
 STUDIO_FOLDER = Path(__file__).resolve().parent
 CONTENT_TYPES = {".js": "text/javascript", ".css": "text/css", ".html": "text/html"}
-POLICY = ("default-src 'none'; script-src 'self'; worker-src 'self'; style-src 'self'; connect-src 'self'; img-src "
-          "data:; base-uri 'none'; "
-          "form-action 'none'; frame-ancestors 'none'")
-HEADERS = {"Content-Security-Policy": POLICY, "X-Content-Type-Options": "nosniff", "Referrer-Policy": "no-referrer",
-           "Cache-Control": "no-store",
+CONTENT_SECURITY_POLICY = ("default-src 'none'; script-src 'self'; worker-src 'self'; style-src 'self'; connect-src "
+                           "'self'; img-src data:; base-uri 'none'; form-action 'none'; frame-ancestors 'none'")
+HEADERS = {"Content-Security-Policy": CONTENT_SECURITY_POLICY, "X-Content-Type-Options": "nosniff",
+           "Referrer-Policy": "no-referrer", "Cache-Control": "no-store",
            "Cross-Origin-Opener-Policy": "same-origin", "Cross-Origin-Resource-Policy": "same-origin"}
 # The first of the ports that no service has (RFC 6335), and how many of them are taken in turn.
 FIRST_PORT, PORT_COUNT = 49152, 16000
 # The request that gives the key for a token, and how long it is at most.
 ENTER_PATH, MAX_TOKEN_BYTES = "enter", 1000
 # How long a connection may be silent, in seconds.
-SILENCE_SECONDS = 60
+MAX_SILENT_SECONDS = 60
 
 
 def page_files() -> dict[str, tuple[str, bytes]]:
@@ -44,7 +43,7 @@ def page_files() -> dict[str, tuple[str, bytes]]:
     return found
 
 
-class Studio(ThreadingHTTPServer):
+class StudioServer(ThreadingHTTPServer):
     """The server. Each request is answered in a thread."""
 
     daemon_threads = True
@@ -70,10 +69,10 @@ class Studio(ThreadingHTTPServer):
 class Handler(BaseHTTPRequestHandler):
     """Answers the requests of a connection."""
 
-    server: Studio
+    server: StudioServer
     protocol_version = "HTTP/1.1"
     server_version, sys_version = "bbmlab", ""
-    timeout = SILENCE_SECONDS
+    timeout = MAX_SILENT_SECONDS
 
     def do_GET(self) -> None:
         """Sends a file of the page."""
@@ -83,7 +82,7 @@ class Handler(BaseHTTPRequestHandler):
             if path not in self.server.files:
                 raise Denied(404, "there is no such page")
             kind, data = self.server.files[path]
-            self.send(200, kind, data)
+            self.send_answer(200, kind, data)
         except Denied as denied:
             self.deny(denied)
 
@@ -96,10 +95,10 @@ class Handler(BaseHTTPRequestHandler):
                 guard.require_key(self.headers)
             body = self.read_body(MAX_TOKEN_BYTES if name == ENTER_PATH else MAX_REQUEST_BYTES)
             if name == ENTER_PATH:
-                answer = self.enter(text_member(body, "token"))
+                answer = self.let_browser_in(text_member(body, "token"))
             else:
                 answer = self.server.answers.answer("" if name == self.path else name, body)
-            self.send(200, "application/json", json.dumps(answer).encode())
+            self.send_answer(200, "application/json", json.dumps(answer).encode())
         except (ValueError, RecursionError):
             self.deny(Denied(400, "the request is no JSON"))
         except Denied as denied:
@@ -116,7 +115,7 @@ class Handler(BaseHTTPRequestHandler):
             raise Denied(400, "a request is a JSON object")
         return body
 
-    def enter(self, token: str) -> dict[str, str]:
+    def let_browser_in(self, token: str) -> dict[str, str]:
         """Lets a browser in."""
         key = self.server.guard.exchange_token(token)
         self.server.on_entry()
@@ -125,9 +124,9 @@ class Handler(BaseHTTPRequestHandler):
     def deny(self, denied: Denied) -> None:
         """Refuses a request, and ends the connection, since its body may be unread."""
         self.close_connection = True
-        self.send(denied.status, "application/json", json.dumps({"error": denied.why}).encode())
+        self.send_answer(denied.status, "application/json", json.dumps({"error": denied.why}).encode())
 
-    def send(self, status: int, kind: str, data: bytes) -> None:
+    def send_answer(self, status: int, kind: str, data: bytes) -> None:
         """Sends an answer."""
         self.send_response(status)
         for name, value in HEADERS.items():
@@ -143,16 +142,16 @@ class Handler(BaseHTTPRequestHandler):
         """Logs nothing."""
 
 
-def studio_server(port: int | None, answers: Answers) -> Studio:
+def studio_server(port: int | None, answers: Answers) -> StudioServer:
     """Returns a server at a port.
 
     Without one a file gets the same port each time if it is free, so that the browser finds its drafts again.
     """
     if port is not None:
-        return Studio(port, answers)
+        return StudioServer(port, answers)
     path = os.fsencode(answers.folder.place / answers.folder.name)
     usual = FIRST_PORT + int.from_bytes(hashlib.sha256(path).digest()[:4], "big") % PORT_COUNT
-    return Studio(usual if is_free_port(usual) else 0, answers)
+    return StudioServer(usual if is_free_port(usual) else 0, answers)
 
 
 def is_free_port(port: int) -> bool:

@@ -1,7 +1,7 @@
 /** The panels beside the picture: size, inputs, the circuit with its refusal, and the truth table. */
 import { fillBox, inputSwitch } from "../view/boxes.js";
-import { Model, refusalAfterTrying } from "./model.js";
-import { appendWords, ask, debounced, element, newElement } from "./page_parts.js";
+import { LayoutModel, refusalAfterTrying } from "./model.js";
+import { appendTextWithCode, askInDialog, debounced, elementById, newElement } from "./page_parts.js";
 import { server } from "./server_link.js";
 import { wireInks } from "./sketch.js";
 import * as surveys from "./survey.js";
@@ -24,7 +24,7 @@ class SidePanels {
   gutterKey;
   inputsKey;
 
-  /** @param {Desk} desk @param {Sketch} sketch @param {(text: string, isBad?: boolean) => void} say */
+  /** @param {EditedLayout} desk @param {EditorStage} sketch @param {(text: string, isBad?: boolean) => void} say */
   constructor(desk, sketch, say) {
     this.desk = desk;
     this.sketch = sketch;
@@ -32,42 +32,42 @@ class SidePanels {
     this.askSoon = debounced(REFUSAL_DELAY, () => this.askRefusal());
     for (const id of NUMBERS) {
       // The field in which a number is typed that is not taken yet.
-      element(id).addEventListener("input", () => { this.typed = id; });
-      element(id).addEventListener("change", () => this.applyNumbers());
+      elementById(id).addEventListener("input", () => { this.typed = id; });
+      elementById(id).addEventListener("change", () => this.applySizeAndSteps());
     }
-    element("enlarge").addEventListener("click", () => this.askAndEnlarge());
-    const pane = element("circuit");
+    elementById("enlarge").addEventListener("click", () => this.askAndEnlarge());
+    const pane = elementById("circuit");
     pane.addEventListener("input",
       () => desk.model.setCircuitText(pane.value === "" ? "" : pane.value.replace(/\n$/, ""), "typing"));
     pane.addEventListener("blur", () => {
       desk.model.closeMerge();
       this.showCircuitText(true);
     });
-    pane.addEventListener("scroll", () => { element("gutter").scrollTop = pane.scrollTop; });
-    element("ways").addEventListener("change", (event) => desk.setWaysMode(event.target.value));
-    desk.listen("change", () => this.show());
+    pane.addEventListener("scroll", () => { elementById("gutter").scrollTop = pane.scrollTop; });
+    elementById("ways").addEventListener("change", (event) => desk.setWaysMode(event.target.value));
+    desk.listen("change", () => this.updatePanels());
     desk.listen("ways", () => this.showLegend());
-    desk.listen("table", () => this.showTable());
+    desk.listen("table", () => this.showTruthTable());
   }
 
   /** Shows what follows from the text. */
-  show() {
-    this.showNumbers();
+  updatePanels() {
+    this.showSizeAndSteps();
     this.showCircuitText(false);
     this.showInputs();
     this.askSoon();
   }
 
   /** Shows the numbers of the layout, apart from one that is typed now. */
-  showNumbers() {
-    for (const id of NUMBERS) if (this.typed !== id) element(id).value = this.desk.layout[id];
+  showSizeAndSteps() {
+    for (const id of NUMBERS) if (this.typed !== id) elementById(id).value = this.desk.layout[id];
   }
 
   /** Puts the layout's number into a field in which one was typed. Returns whether one was. */
   cancelTyping(id) {
     const wasTyped = this.typed === id;
     if (wasTyped) this.typed = null;
-    this.showNumbers();
+    this.showSizeAndSteps();
     return wasTyped;
   }
 
@@ -82,7 +82,7 @@ class SidePanels {
       label.append(field);
       box.append(label, " ");
     });
-    const sides = await ask("Enlarge the layout",
+    const sides = await askInDialog("Enlarge the layout",
       [newElement("p", "Columns and rows that are added at each side: even numbers. The parts keep their distances."),
         box],
       [["enlarge", () => fields.map((field) => Number(field.value))], ["cancel", () => null]]);
@@ -92,9 +92,9 @@ class SidePanels {
   }
 
   /** Sets size and steps by the fields. */
-  applyNumbers() {
-    const [width, height, steps] = NUMBERS.map((id) => Number(element(id).value)), { layout, model } = this.desk;
-    const isFollowed = element("follow").checked;
+  applySizeAndSteps() {
+    const [width, height, steps] = NUMBERS.map((id) => Number(elementById(id).value)), { layout, model } = this.desk;
+    const isFollowed = elementById("follow").checked;
     this.typed = null;
     if (isFollowed && steps !== layout.steps && this.resizeWithEnds(width, height, steps)) {
       this.say("");
@@ -102,7 +102,7 @@ class SidePanels {
     }
     const reason = refusalAfterTrying(() => model.setSizeAndSteps(width, height, steps, isFollowed));
     this.say(reason || "", reason !== null);
-    this.showNumbers();
+    this.showSizeAndSteps();
   }
 
   /**
@@ -115,20 +115,20 @@ class SidePanels {
     const now = model.layout && ends.length
       ? surveys.runForEndParts(model.layout, model.circuit, MAX_FOLLOW_MILLISECONDS) : null;
     if (now === null || kindsAndCells(now) !== kindsAndCells(ends)) return false;
-    const made = new Model(model.text);
+    const made = new LayoutModel(model.text);
     if (refusalAfterTrying(() => {
-      made.remove(ends.map(({ line }) => line));
+      made.removeParts(ends.map(({ line }) => line));
       made.setSizeAndSteps(width, height, steps);
     }) !== null) return false;
     const parts = surveys.runForEndParts(made.layout, made.circuit, MAX_FOLLOW_MILLISECONDS);
-    if (parts === null || refusalAfterTrying(() => made.add(parts)) !== null) return false;
+    if (parts === null || refusalAfterTrying(() => made.addParts(parts)) !== null) return false;
     model.setText(made.text, "size");
     return true;
   }
 
   /** Shows the lines before the layout, unless one types in them. */
   showCircuitText(isForced) {
-    const pane = element("circuit"), text = this.desk.model.headText.replaceAll("\r", "");
+    const pane = elementById("circuit"), text = this.desk.model.headText.replaceAll("\r", "");
     if (pane.value !== text && (isForced || document.activeElement !== pane || pane.value.replace(/\n$/, "") !== text))
         pane.value = text;
     this.showGutter();
@@ -136,16 +136,16 @@ class SidePanels {
 
   /** Shows the numbers of the lines, with a mark at the one that is refused. */
   showGutter() {
-    const count = element("circuit").value.split("\n").length, bad = this.refusal ? this.refusal.line : null;
+    const count = elementById("circuit").value.split("\n").length, bad = this.refusal ? this.refusal.line : null;
     const key = `${count} ${bad}`;
     if (this.gutterKey === key) return;
     this.gutterKey = key;
     const numbers = (from, to) =>
       [...Array(Math.max(0, to - from)).keys()].map((index) => `${from + index}\n`).join("");
-    if (bad === null || bad > count) element("gutter").replaceChildren(numbers(1, count + 1));
-    else element("gutter").replaceChildren(numbers(1, bad), newElement("span", `✗ ${bad}`, "bad"), "\n",
+    if (bad === null || bad > count) elementById("gutter").replaceChildren(numbers(1, count + 1));
+    else elementById("gutter").replaceChildren(numbers(1, bad), newElement("span", `✗ ${bad}`, "bad"), "\n",
       numbers(bad + 1, count + 1));
-    element("gutter").scrollTop = element("circuit").scrollTop;
+    elementById("gutter").scrollTop = elementById("circuit").scrollTop;
   }
 
   /** Asks the lab's reader where it refuses the circuit or the layout. */
@@ -155,19 +155,19 @@ class SidePanels {
     if (number !== this.asked || answer.gone || answer.error) return;
     this.refusal = answer.refusal;
     this.showGutter();
-    const box = element("refusal"), { refusal } = this;
+    const box = elementById("refusal"), { refusal } = this;
     box.replaceChildren();
     if (!refusal) return;
     const line = refusal.line === null ? "" : `Line ${refusal.line}: `;
     const text = refusal.line === null ? "" : this.desk.model.lines[refusal.line - 1];
     if (text) box.append(newElement("p", `${line}${text}`, "code"));
-    for (const words of refusal.words) box.append(appendWords(newElement("p", "", "bad"), words));
-    for (const words of refusal.hints.slice(0, 2)) box.append(appendWords(newElement("p", "", "soft"), words));
+    for (const words of refusal.words) box.append(appendTextWithCode(newElement("p", "", "bad"), words));
+    for (const words of refusal.hints.slice(0, 2)) box.append(appendTextWithCode(newElement("p", "", "soft"), words));
   }
 
   /** Shows a switch for each input. */
   showInputs() {
-    const { names } = this.desk.player, box = element("inputs");
+    const { names } = this.desk.player, box = elementById("inputs");
     const key = `${names.join(" ")} but ${[...this.desk.off].join(" ")}`;
     if (this.inputsKey === key) return;
     this.inputsKey = key;
@@ -178,7 +178,7 @@ class SidePanels {
 
   /** Shows which colours the wires' ways have. */
   showLegend() {
-    const { survey, isExact } = this.desk, legend = element("legend"), inks = wireInks();
+    const { survey, isExact } = this.desk, legend = elementById("legend"), inks = wireInks();
     legend.replaceChildren();
     if (!survey) return;
     const seen = [...survey.wires.keys()].filter((colour) => colour < surveys.CONSTANT_COLOUR).sort((a, b) => a - b);
@@ -194,8 +194,8 @@ class SidePanels {
   }
 
   /** Shows what the outputs should be and what they are. */
-  showTable() {
-    const { rows, hasTable, circuit } = this.desk, box = element("truth");
+  showTruthTable() {
+    const { rows, hasTable, circuit } = this.desk, box = elementById("truth");
     if (!hasTable) {
       const count = circuit ? circuit.inputs.length : 0;
       const why = !circuit ? "The circuit cannot be read yet."
@@ -209,7 +209,7 @@ class SidePanels {
     const head = newElement("tr"), grid = newElement("table");
     head.append(...inputs.map((name) => newElement("th", name)),
       ...outputs.map((name) => newElement("th", name, "output")));
-    grid.append(head, ...rows.map((row) => this.tableRow(row)));
+    grid.append(head, ...rows.map((row) => this.truthTableRow(row)));
     const words = wrong ? `${wrong} of ${rows.length} rows differ.`
       : rows.length === 1 ? "The row is as the circuit says." : `All ${rows.length} rows are as the circuit says.`;
     const frame = newElement("div", "", "frame");
@@ -219,7 +219,7 @@ class SidePanels {
   }
 
   /** Returns a row of the truth table: an output that differs shows what was found and what is wanted. */
-  tableRow({ inputs, outputs }) {
+  truthTableRow({ inputs, outputs }) {
     const bit = (value) => (value === null ? "?" : String(Number(value))), row = newElement("tr");
     row.append(...inputs.map((value) => newElement("td", bit(value))));
     for (const { wanted, found } of outputs) {

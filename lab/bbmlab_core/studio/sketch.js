@@ -1,14 +1,14 @@
 /**
  * Shows a layout that is being drawn: the viewer's picture with ways, marks, the selection and what a tool would do.
  */
-import { placeNames } from "../view/labels.js";
+import { chooseNamePlaces } from "../view/labels.js";
 import * as painting from "../view/painting.js";
 import { Stage } from "../view/stage.js";
-import { Buckets, changedIndexes } from "../view/tiles.js";
+import { SquareIndex, changedIndexes } from "../view/tiles.js";
 import * as geometry from "./geometry.js";
 import * as surveys from "./survey.js";
 
-const { RULER } = painting;
+const { RULER_SIZE } = painting;
 // A way in a survey has five numbers: x, y, x, y and a colour.
 const WIRE_INK_COUNT = 8, NUMBERS_PER_WAY = 5, PORT_FONT = "600 12px system-ui, sans-serif";
 
@@ -18,7 +18,7 @@ function wireInks() {
   return [...Array(WIRE_INK_COUNT).keys()].map((index) => style.getPropertyValue(`--wire-${index}`).trim());
 }
 
-class Sketch extends Stage {
+class EditorStage extends Stage {
   desk;
   ghost = null;
   selected = [];
@@ -29,7 +29,7 @@ class Sketch extends Stage {
   isStale = true;
   isBaseStale = true;
 
-  /** @param {Desk} desk @param {Object<string, HTMLElement>} parts */
+  /** @param {EditedLayout} desk @param {Object<string, HTMLElement>} parts */
   constructor(desk, parts) {
     super(desk.player, parts);
     // What a tool would do: parts, why they cannot be, ports of a cell; the selected parts, a frame, the keyboard's
@@ -42,14 +42,14 @@ class Sketch extends Stage {
   }
 
   /** Shows the desk's layout as it is now. */
-  takeLayout() {
+  showEditedLayout() {
     const { layout, player } = this.desk;
     const isOther = layout.width !== this.layout.width || layout.height !== this.layout.height;
     this.player = player;
     this.layout = layout;
     this.good = null;
-    this.takeMirrors();
-    if (isOther && this.isFit) this.fit();
+    this.updateMirrors();
+    if (isOther && this.isFit) this.fitWholeLayout();
     else this.requestPaint();
   }
 
@@ -57,7 +57,7 @@ class Sketch extends Stage {
   paintWave() { if (this.desk.hasWave) super.paintWave(); }
 
   /** Returns the colour of a wire by its number in the survey's order. */
-  inkOf(colour, inks, place) {
+  inkOfColour(colour, inks, place) {
     if (colour === surveys.CONSTANT_COLOUR) return place.inks.soft;
     return colour === surveys.OTHER_COLOUR ? place.inks.border : inks[(colour - 1) % WIRE_INK_COUNT];
   }
@@ -79,25 +79,25 @@ class Sketch extends Stage {
     const { pen, wide, high } = place, { width, height } = pen.canvas;
     if (this.isStale) this.paintLayout(place);
     else {
-      if (this.isBaseStale || this.base.width !== width || this.base.height !== height) this.paintBase(place);
+      if (this.isBaseStale || this.base.width !== width || this.base.height !== height) this.paintBaseCanvas(place);
       pen.drawImage(this.base, 0, 0, wide, high);
     }
     this.isBaseStale ||= this.isStale;
     this.isStale = false;
     pen.save();
     pen.beginPath();
-    pen.rect(RULER.wide, RULER.high, place.wide, place.high);
+    pen.rect(RULER_SIZE.wide, RULER_SIZE.high, place.wide, place.high);
     pen.clip();
-    for (const { box } of this.selected) painting.paintOutline(place, box, place.inks.box, [], -2, 3);
+    for (const { box } of this.selected) painting.paintBoxOutline(place, box, place.inks.box, [], -2, 3);
     if (this.ghost) this.paintGhost(place, this.ghost);
-    if (this.frame2) painting.paintOutline(place, this.frame2, place.inks.box, [5, 4], 0, 1.5);
-    if (this.cursor) painting.paintOutline(place, [...this.cursor, 1, 1], place.inks.box, [], 1, 2);
+    if (this.frame2) painting.paintBoxOutline(place, this.frame2, place.inks.box, [5, 4], 0, 1.5);
+    if (this.cursor) painting.paintBoxOutline(place, [...this.cursor, 1, 1], place.inks.box, [], 1, 2);
     pen.restore();
     painting.paintRulers(place, this.layout, pointed);
   }
 
   /** Draws the layout with its ways on a canvas of its own, which is then shown at each frame. */
-  paintBase(shown) {
+  paintBaseCanvas(shown) {
     this.base.width = shown.pen.canvas.width;
     this.base.height = shown.pen.canvas.height;
     const place = { ...shown, pen: this.base.getContext("2d") };
@@ -110,24 +110,24 @@ class Sketch extends Stage {
   paintLayout(place) {
     super.paintWhole(place, null);
     if (this.desk.survey) this.paintSurveyMarks(place);
-    for (const { box } of this.desk.fallen) painting.paintOutline(place, box, place.inks.bad, [], -2, 2.5);
-    for (const cell of this.faults) painting.paintCircle(place, cell);
+    for (const { box } of this.desk.unstable) painting.paintBoxOutline(place, box, place.inks.bad, [], -2, 2.5);
+    for (const cell of this.faults) painting.paintCellCircle(place, cell);
   }
 
   /** Files the ways by the squares of the layout, once for each survey. */
-  fileWays() {
+  indexWays() {
     const { ways } = this.desk.survey;
     if (this.filedOf === ways) return;
-    this.filed = new Buckets();
+    this.filed = new SquareIndex();
     for (let index = 0; index < ways.length; index += NUMBERS_PER_WAY) this.filed.addPiece(ways[index], ways[index + 1],
         ways[index + 2], ways[index + 3]);
     this.filedOf = ways;
   }
 
   /** Draws new ways at the next frame, and only the tiles again that show another way. */
-  takeWays() {
+  showChangedWays() {
     const { survey } = this.desk, fresh = survey ? survey.ways : [], old = this.shownWays || [];
-    const changed = new Buckets();
+    const changed = new SquareIndex();
     if (fresh === old) return;
     const { gone, added } = changedIndexes(old, fresh, NUMBERS_PER_WAY);
     for (const [list, places] of [[old, gone], [fresh, added]]) for (const at of places) changed.addPiece(list[at],
@@ -141,8 +141,8 @@ class Sketch extends Stage {
   drawWays({ pen, scale, left, top, inks: shown }, range) {
     if (!this.desk.survey) return;
     const { ways } = this.desk.survey, inks = wireInks(), paths = new Map();
-    this.fileWays();
-    this.filed.visit(range, (number) => {
+    this.indexWays();
+    this.filed.visitRange(range, (number) => {
       const colour = ways[NUMBERS_PER_WAY * number + 4];
       if (!paths.has(colour)) paths.set(colour, []);
       paths.get(colour).push(NUMBERS_PER_WAY * number);
@@ -150,7 +150,7 @@ class Sketch extends Stage {
     pen.lineWidth = Math.max(1.2, Math.min(0.16 * scale, 3));
     pen.globalAlpha = 0.75;
     for (const [colour, places] of paths) {
-      pen.strokeStyle = this.inkOf(colour, inks, { inks: shown });
+      pen.strokeStyle = this.inkOfColour(colour, inks, { inks: shown });
       pen.beginPath();
       for (const index of places) {
         pen.moveTo((ways[index] + 0.5 - left) * scale, (ways[index + 1] + 0.5 - top) * scale);
@@ -184,13 +184,13 @@ class Sketch extends Stage {
   paintGhost(place, { parts, reason, ports = [], wanted = null, time = 0, link = null }) {
     const { pen, scale } = place, ink = reason ? place.inks.bad : place.inks.good;
     if (link) this.paintLink(place, link, ink);
-    if (wanted) painting.paintOutline(place, wanted, place.inks.bad, [3, 3], 0, 1.5);
+    if (wanted) painting.paintBoxOutline(place, wanted, place.inks.bad, [3, 3], 0, 1.5);
     for (const { kind, name, box } of parts) {
       pen.globalAlpha = 0.3;
       pen.fillStyle = ink;
       pen.fillRect((box[0] - place.left) * scale, (box[1] - place.top) * scale, box[2] * scale, box[3] * scale);
       pen.globalAlpha = 1;
-      painting.paintOutline(place, box, ink, kind === "mirror" ? [] : [3, 2], 0, 2);
+      painting.paintBoxOutline(place, box, ink, kind === "mirror" ? [] : [3, 2], 0, 2);
       if (kind !== "mirror" && kind !== "waste" && ports.length === 0) this.paintArrow(place, box,
           geometry.flightDirection(box[0], box[1], kind === "out" ? time : 0), ink);
       if (name && ports.length === 0 && parts.length <= 2) this.paintWord(place, box, name, ink);
@@ -208,7 +208,7 @@ class Sketch extends Stage {
     const names = ports.map(({ cell: [x, y], direction: [dx, dy] }, index) =>
       ({ isAbove: dy > 0, height: 15, width: pen.measureText(words[index]).width + 4,
       cell: rect([x - Number(dx < 0), y - Number(dy < 0), 2, 2]) }));
-    placeNames(names, parts.map(({ box }) => rect(box)), []).forEach(({ box, away }, index) => {
+    chooseNamePlaces(names, parts.map(({ box }) => rect(box)), []).forEach(({ box, away }, index) => {
       const { cell: [x, y], direction } = ports[index], middle = rect([x + 0.5, y + 0.5, 0, 0]);
       this.paintArrow(place, [x, y], direction, inks.box);
       if (away > 0) {
@@ -266,4 +266,4 @@ class Sketch extends Stage {
   }
 }
 
-export { Sketch, wireInks };
+export { EditorStage, wireInks };

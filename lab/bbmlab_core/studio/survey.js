@@ -33,7 +33,7 @@ function sampledChoices(inputs) {
 /**
  * Returns the values of the circuit's wires in some choices, a bit for each choice; without a circuit, of the inputs.
  */
-function tablesOf(circuit, inputs, choices) {
+function wireTables(circuit, inputs, choices) {
   const tables = new Map();
   choices.forEach((on, lane) => {
     const values = circuit ? circuitValues(circuit, on) : new Map(inputs.map((name) => [name, on.has(name)]));
@@ -42,7 +42,7 @@ function tablesOf(circuit, inputs, choices) {
   return tables;
 }
 
-class Survey {
+class ManyChoicesRun {
   layout;
   circuit;
   choices;
@@ -80,7 +80,7 @@ class Survey {
     this.inputs = inputs;
     this.isEnded = layout.steps === 0;
     this.full = choices.length === LANE_COUNT ? -1 : (1 << choices.length) - 1;
-    this.tables = tablesOf(circuit, inputs, choices);
+    this.tables = wireTables(circuit, inputs, choices);
     this.colours = new Map();
     [...this.tables].slice(0, MAX_WIRES).forEach(([, table], index) => { if (table && !this.colours.has(table))
       this.colours.set(table, index + 1); });
@@ -95,11 +95,11 @@ class Survey {
     this.passes = new Int32Array(count);
     // 1 is a cell of a mirror, and 2 one that changed.
     this.isMirror = new Uint8Array(count);
-    this.begin();
+    this.setStartState();
   }
 
   /** Makes the cells live that are live at the start. */
-  begin() {
+  setStartState() {
     const { layout, live, full, numbering } = this, { row } = numbering, first = [];
     for (const [x, y, w, h] of layout.mirrors) {
       for (let v = y; v < y + h; v += 1) for (let u = x; u < x + w; u += 1) first.push(numbering.keyOf(u, v));
@@ -131,7 +131,7 @@ class Survey {
   }
 
   /** Makes steps for some milliseconds, and returns whether the run is at its end. */
-  advance(milliseconds) {
+  runForMilliseconds(milliseconds) {
     const until = performance.now() + milliseconds, { steps } = this.layout;
     for (let count = 1; !this.isEnded && (count % 8 || performance.now() < until); count += 1) {
       this.step();
@@ -161,7 +161,7 @@ class Survey {
     this.now = this.next;
     this.nowCount = this.nextCount;
     this.next = now;
-    if (this.time <= this.layout.steps) this.dropOutside();
+    if (this.time <= this.layout.steps) this.removeCellsOutside();
   }
 
   /**
@@ -203,7 +203,7 @@ class Survey {
     if ((note & 64) === 0) return;
     if (diagonal !== 0) this.noteChangedMirrorCells(a, d);
     if (across !== 0) this.noteChangedMirrorCells(b, c);
-    this.noteBroken(a);
+    this.noteBrokenMirror(a);
     this.noteBounce(a, any & ~(one | other | both));
   }
 
@@ -248,7 +248,7 @@ class Survey {
   }
 
   /** Notes that a step changed a cell of a mirror. */
-  noteBroken(a) {
+  noteBrokenMirror(a) {
     if (this.noted[a] & 16) return;
     const { row } = this.numbering;
     const isHit = [a, a + 1, a + row, a + row + 1].some((key) => this.isMirror[key] && this.live[key] !== this.full);
@@ -272,7 +272,7 @@ class Survey {
   }
 
   /** Takes away what left the rectangle, and notes the first time. */
-  dropOutside() {
+  removeCellsOutside() {
     const { width, height } = this.layout, { live, now, nowCount, numbering } = this;
     for (let index = 0; index < nowCount; index += 1) {
       const key = now[index], x = numbering.xOf(key), y = numbering.yOf(key);
@@ -344,14 +344,14 @@ class TruthTableRun {
   }
 
   /** Runs for some milliseconds, and returns whether all choices were run. */
-  advance(milliseconds) {
+  runForMilliseconds(milliseconds) {
     const until = performance.now() + milliseconds;
     while (this.ends.length * LANE_COUNT < this.choices.length) {
       const first = this.ends.length * LANE_COUNT;
-      this.run ||= new Survey(this.layout, this.circuit, this.choices.slice(first, first + LANE_COUNT));
+      this.run ||= new ManyChoicesRun(this.layout, this.circuit, this.choices.slice(first, first + LANE_COUNT));
       while (!this.run.isEnded) {
         if (performance.now() >= until) return false;
-        this.run.advance(4);
+        this.run.runForMilliseconds(4);
       }
       this.ends.push({ left: this.run.leftLanes,
         states: new Map(this.layout.outs.map((out) => [out, this.run.live[this.run.numbering.keyOf(...out.cell)]])) });
@@ -390,7 +390,7 @@ class TruthTableRun {
 function cellsAsBalls(cells, time) {
   const left = new Map(cells.map((cell) => [String(cell), cell])), balls = [];
   for (const cell of cells) {
-    const [, tail] = geometry.pairCells(cell, time), key = String(tail);
+    const [, tail] = geometry.twoBallCells(cell, time), key = String(tail);
     if (left.has(String(cell)) && left.has(key)) {
       balls.push([cell, tail]);
       left.delete(key);
@@ -432,12 +432,13 @@ function ballEndParts({ live, isMirror, tables }, outputs, { width, height, step
  */
 function runForEndParts(layout, circuit, milliseconds) {
   if (!circuit.isWhole || circuit.inputs.length > 5) return null;
-  const run = new Survey(layout, circuit, allChoices(circuit.inputs)), until = performance.now() + milliseconds;
-  while (!run.isEnded && performance.now() < until) run.advance(4);
+  const run = new ManyChoicesRun(layout, circuit, allChoices(circuit.inputs)), until = performance.now() + milliseconds;
+  while (!run.isEnded && performance.now() < until) run.runForMilliseconds(4);
   return run.isEnded && run.leftAt === null ? ballEndParts(run, circuit.outputs, layout) : null;
 }
 
 export {
-  Survey, TruthTableRun, runForEndParts, allChoices, sampledChoices, ballEndParts, CONSTANT_COLOUR, OTHER_COLOUR,
+  ManyChoicesRun, TruthTableRun, runForEndParts, allChoices, sampledChoices, ballEndParts, CONSTANT_COLOUR,
+  OTHER_COLOUR,
   LANE_COUNT,
 };

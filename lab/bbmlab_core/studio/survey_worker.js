@@ -3,45 +3,45 @@
  * finds. While it runs it looks for newer ones.
  */
 import * as surveys from "./survey.js";
-import { Survey, TruthTableRun } from "./survey.js";
+import { ManyChoicesRun, TruthTableRun } from "./survey.js";
 
 // How long a run may take before newer messages are looked at, in milliseconds.
-const SLICE_MILLISECONDS = 12;
-const workState = { number: 0, circuit: null }, turns = new MessageChannel();
+const RUN_SLICE_MILLISECONDS = 12;
+const currentRuns = { number: 0, circuit: null }, turns = new MessageChannel();
 
 /** Returns the choices of inputs whose ways are wanted: those that are on, or all of a few inputs, or some of many. */
-function choicesOf({ on, isExact }, layout, circuit) {
+function wantedChoices({ on, isExact }, layout, circuit) {
   if (on) return [new Set(on)];
   const inputs = circuit ? circuit.inputs : [...new Set(layout.ins.map(({ name }) => name))];
   return isExact ? surveys.allChoices(inputs) : surveys.sampledChoices(inputs);
 }
 
 /** Runs for a while, first for the ways and then for the table, and goes on later if there is more to do. */
-function advance() {
-  const { number, survey, table } = workState;
+function runSlice() {
+  const { number, survey, table } = currentRuns;
   if (survey) {
-    if (survey.advance(SLICE_MILLISECONDS)) {
-      workState.survey = null;
+    if (survey.runForMilliseconds(RUN_SLICE_MILLISECONDS)) {
+      currentRuns.survey = null;
       const found = survey.result();
       // The large arrays are handed over.
       postMessage({ number, ways: found }, [found.ways.buffer, found.live.buffer, found.isMirror.buffer]);
     }
-  } else if (table && table.advance(SLICE_MILLISECONDS)) {
-    workState.table = null;
+  } else if (table && table.runForMilliseconds(RUN_SLICE_MILLISECONDS)) {
+    currentRuns.table = null;
     postMessage({ number, rows: table.rows() });
   }
-  if (workState.survey || workState.table) turns.port2.postMessage(null);
+  if (currentRuns.survey || currentRuns.table) turns.port2.postMessage(null);
 }
 
 /** Begins with another layout. */
-onmessage = ({ data: { number, layout, ways, hasTable, circuit = workState.circuit } }) => {
-  const isIdle = !workState.survey && !workState.table;
-  const survey = ways && new Survey(layout, circuit, choicesOf(ways, layout, circuit));
-  workState.number = number;
-  workState.circuit = circuit;
-  workState.survey = survey;
-  workState.table = hasTable ? new TruthTableRun(layout, circuit) : null;
-  if (isIdle && (workState.survey || workState.table)) turns.port2.postMessage(null);
+onmessage = ({ data: { number, layout, ways, hasTable, circuit = currentRuns.circuit } }) => {
+  const isIdle = !currentRuns.survey && !currentRuns.table;
+  const survey = ways && new ManyChoicesRun(layout, circuit, wantedChoices(ways, layout, circuit));
+  currentRuns.number = number;
+  currentRuns.circuit = circuit;
+  currentRuns.survey = survey;
+  currentRuns.table = hasTable ? new TruthTableRun(layout, circuit) : null;
+  if (isIdle && (currentRuns.survey || currentRuns.table)) turns.port2.postMessage(null);
 };
 
-turns.port1.onmessage = advance;
+turns.port1.onmessage = runSlice;

@@ -1,17 +1,17 @@
 /**
  * The badge and the report: asks the server for the verdict when the text has been still, and shows faults and fixes.
  */
-import { appendWords, button, debounced, element, newElement } from "./page_parts.js";
+import { appendTextWithCode, newButton, debounced, elementById, newElement } from "./page_parts.js";
 import { server } from "./server_link.js";
 
 const VERDICT_DELAY = 200, MAX_CIRCLES = 40, RETRY_DELAY = 2000;
-const TITLES = { yes: "yes", no: "no", refused: "refused", none: "no certificate found", unknown: "no answer" };
-const ORIGIN_WORDS = { own: "with the certificate of the text", earlier: "with the last certificate that got a yes",
-  plain: "with a certificate of one module",
+const VERDICT_TITLES = { yes: "yes", no: "no", refused: "refused", none: "no certificate found", unknown: "no answer" };
+const CERTIFICATE_ORIGIN_WORDS = { own: "with the certificate of the text",
+  earlier: "with the last certificate that got a yes", plain: "with a certificate of one module",
   certify: "with a certificate that the lab made" };
 
 // What kind of no the lines of a report make, by their first words.
-const KINDS = { "local end": "the end is wrong", "local edge": "an edge line is wrong or missing",
+const FAULT_KIND_WORDS = { "local end": "the end is wrong", "local edge": "an edge line is wrong or missing",
   "local stop": "a stop is wrong", keep: "an inverse gate has no row",
   unkept: "an inverse gate has no `keep`", border: "two modules disagree", delay: "a delay takes another time",
     meet: "inputs do not meet" };
@@ -21,7 +21,7 @@ function describeFault({ text, cell, time }, { width, height }) {
   const words = text.split(" "), isRim = cell && (cell[0] % (width - 1) === 0 || cell[1] % (height - 1) === 0);
   if (words[0] === "local" && words[2] === "edge" && isRim)
       return `the rim is live at (${cell.join(", ")}), time ${time}`;
-  const kind = KINDS[words[0] === "local" ? `local ${words[2]}` : words[0]] || "the report has a fault";
+  const kind = FAULT_KIND_WORDS[words[0] === "local" ? `local ${words[2]}` : words[0]] || "the report has a fault";
   return cell ? `${kind} at (${cell.join(", ")}), time ${time}` : kind;
 }
 
@@ -44,17 +44,17 @@ class VerdictPanel {
   seconds = [];
   askSoon;
 
-  /** @param {Desk} desk @param {Sketch} sketch */
+  /** @param {EditedLayout} desk @param {EditorStage} sketch */
   constructor(desk, sketch) {
     // `earlier` is the last certificate that got a yes; `seconds` are from the last edit to its first verdict and to
     // its last one.
     this.desk = desk;
     this.sketch = sketch;
-    this.askSoon = debounced(VERDICT_DELAY, () => this.ask());
-    desk.listen("change", () => this.outdate());
-    element("badge").addEventListener("click", () => {
-      element("verdict-box").focus();
-      element("verdict-box").scrollIntoView();
+    this.askSoon = debounced(VERDICT_DELAY, () => this.askVerdict());
+    desk.listen("change", () => this.markOutdated());
+    elementById("badge").addEventListener("click", () => {
+      elementById("verdict-box").focus();
+      elementById("verdict-box").scrollIntoView();
     });
   }
 
@@ -62,7 +62,7 @@ class VerdictPanel {
   get isCurrent() { return this.verdict !== null && this.checked === this.desk.model.text; }
 
   /** Greys the verdict if the text is another one now, and asks soon. */
-  outdate() {
+  markOutdated() {
     if (this.isCurrent) {
       this.showBadge();
       return;
@@ -71,14 +71,14 @@ class VerdictPanel {
     this.editedAt = performance.now();
     this.showBadge();
     this.sketch.faults = [];
-    element("report").classList.add("old");
+    elementById("report").classList.add("old");
     this.askSoon();
   }
 
   /**
    * Asks the server for the verdict: first by the certificates that need no search, and then by one that the lab makes.
    */
-  async ask(stage = "first") {
+  async askVerdict(stage = "first") {
     const { text } = this.desk.model, number = this.asked += 1;
     const answer = await server.request("verdict", { text, stage, earlier: this.earlier });
     // An answer about another text than that of now is no news: the change of the text has asked again, unless its
@@ -89,20 +89,20 @@ class VerdictPanel {
       return;
     }
     if (answer.gone) setTimeout(() => { if (number === this.asked) this.askSoon(); }, RETRY_DELAY);
-    this.takeAnswer(text, answer, stage);
+    this.showAnswer(text, answer, stage);
     if (answer.error) return;
-    if (!this.verdict.is_last) this.ask(this.verdict.verdict === "no" ? "other" : "made");
-    else if (["no", "refused", "none"].includes(this.verdict.verdict)) this.explain(number, text);
+    if (!this.verdict.is_last) this.askVerdict(this.verdict.verdict === "no" ? "other" : "made");
+    else if (["no", "refused", "none"].includes(this.verdict.verdict)) this.askExplanation(number, text);
   }
 
   /** Shows an answer. If the lab made no certificate, the no by another one stays. */
-  takeAnswer(text, answer, stage) {
+  showAnswer(text, answer, stage) {
     const first = stage === "other" && this.isCurrent && this.verdict.verdict === "no" ? this.verdict : null;
     if (answer.error) this.verdict = { verdict: "unknown", words: [answer.error], faults: [], by: "", hints: [],
         is_last: true };
     else if (first && answer.verdict === "none") this.verdict = { ...first,
       words: [...first.words, "The lab found no other certificate:", ...answer.words], is_last: true };
-    else this.verdict = answer.verdict === "yes" && !this.isOfPicture(answer.bundle)
+    else this.verdict = answer.verdict === "yes" && !this.isTextOfPicture(answer.bundle)
       ? { ...answer, ...OTHER_PICTURE_VERDICT } : answer;
     this.checked = text;
     this.explanation = null;
@@ -114,13 +114,13 @@ class VerdictPanel {
   }
 
   /** Whether the text that the program read is, up to its certificate, that of the picture. */
-  isOfPicture(bundle) {
+  isTextOfPicture(bundle) {
     const drawn = this.desk.model.drawnText;
     return drawn !== null && bundle.startsWith(`${drawn}certificate `);
   }
 
   /** Asks the server for words and fixes. */
-  async explain(number, text) {
+  async askExplanation(number, text) {
     const { bundle, report } = this.verdict;
     const answer = await server.request("explain", { text, bundle, report });
     if (number !== this.asked || answer.replaced || answer.gone) return;
@@ -130,22 +130,23 @@ class VerdictPanel {
 
   /** Shows the verdict, grey if it is outdated. */
   showBadge() {
-    const badge = element("badge"), { verdict, isCurrent } = this;
+    const badge = elementById("badge"), { verdict, isCurrent } = this;
     const isWaiting = !verdict || isCurrent && verdict.verdict === "none" && !verdict.is_last;
-    const isBlank = isCurrent && this.isDeskEmpty;
+    const isBlank = isCurrent && this.isTextEmpty;
     badge.className = isWaiting || isBlank ? "waiting" : isCurrent ? verdict.verdict : "old";
     badge.textContent = isBlank ? "nothing yet" : isWaiting ? "checking…"
-      : isCurrent ? TITLES[verdict.verdict] : `${TITLES[verdict.verdict]}, outdated`;
+      : isCurrent ? VERDICT_TITLES[verdict.verdict] : `${VERDICT_TITLES[verdict.verdict]}, outdated`;
     const said = isCurrent && !isBlank && ["yes", "no", "refused"].includes(verdict.verdict);
     const [fault] = verdict ? verdict.faults : [];
     const kind = said && verdict.verdict === "no" && fault ? `${describeFault(fault, this.desk.layout)}; ` : "";
-    element("who").textContent = said ? `${kind}${this.programWords()}` : "";
-    element("who").title = this.program && this.program.path ? `${this.program.path}\nSHA-256 ${this.program.sha256}`
+    elementById("who").textContent = said ? `${kind}${this.programWords()}` : "";
+    elementById("who").title = this.program && this.program.path
+      ? `${this.program.path}\nSHA-256 ${this.program.sha256}`
       : "";
   }
 
   /** Whether there is nothing that a verdict could be about: no wire and no part. */
-  get isDeskEmpty() {
+  get isTextEmpty() {
     const { circuit, model } = this.desk;
     return circuit !== null && circuit.names.size === 0 && model.parts.length === 0;
   }
@@ -155,17 +156,18 @@ class VerdictPanel {
     const { program, verdict } = this;
     if (!program || !program.path) return "";
     const release = program.is_release ? " of the release" : "";
-    const by = ORIGIN_WORDS[verdict.by] && verdict.verdict !== "refused" ? `, ${ORIGIN_WORDS[verdict.by]}` : "";
+    const by = CERTIFICATE_ORIGIN_WORDS[verdict.by] && verdict.verdict !== "refused"
+      ? `, ${CERTIFICATE_ORIGIN_WORDS[verdict.by]}` : "";
     const more = verdict.is_last ? "" : "; looking for another one…";
     return `says ${program.version || program.path}${release}${by}${more}`;
   }
 
   /** Shows the report: words, faults and fixes. */
   showReport() {
-    const { verdict, explanation } = this, box = element("report");
+    const { verdict, explanation } = this, box = elementById("report");
     box.classList.toggle("old", !this.isCurrent);
     box.replaceChildren();
-    if (this.isCurrent && this.isDeskEmpty) {
+    if (this.isCurrent && this.isTextEmpty) {
       box.append(newElement("p", "The circuit is empty, and nothing is drawn.", "soft"));
       return;
     }
@@ -180,7 +182,7 @@ class VerdictPanel {
     if (explanation) this.showFix(box, explanation);
     else if (verdict.is_last && isChecked) box.append(newElement("p", "Looking for fixes…", "soft"));
     for (const words of [...verdict.words, ...(verdict.rule ? [`Rule: ${verdict.rule}`] : []), ...verdict.hints])
-        box.append(appendWords(newElement("p"), words));
+        box.append(appendTextWithCode(newElement("p"), words));
     if (!verdict.is_last) box.append(newElement("p", "The lab makes a certificate…", "soft"));
     for (const fault of verdict.faults) this.showFault(box, fault);
     this.sketch.faults = this.isCurrent
@@ -190,17 +192,17 @@ class VerdictPanel {
 
   /** Shows the fix of the whole text, or what was tried. */
   showFix(box, { headline, fix, tried }) {
-    for (const words of headline) box.append(appendWords(newElement("p"), words));
+    for (const words of headline) box.append(appendTextWithCode(newElement("p"), words));
     if (fix) box.append(this.fixBox(fix));
-    for (const words of tried) box.append(appendWords(newElement("p", "", "soft"), words));
+    for (const words of tried) box.append(appendTextWithCode(newElement("p", "", "soft"), words));
   }
 
   /** Returns what a fix changes, with a button that takes it. It was tried. */
   fixBox({ words, text }) {
     const box = newElement("div", "", "fix-box"), what = newElement("p");
     what.append(newElement("strong", "Fix: "));
-    words.forEach((word, index) => appendWords(what, index ? ` ${word}` : word));
-    box.append(what, button("apply this fix", () => { if (this.isCurrent) this.desk.model.setText(text, "fix"); },
+    words.forEach((word, index) => appendTextWithCode(what, index ? ` ${word}` : word));
+    box.append(what, newButton("apply this fix", () => { if (this.isCurrent) this.desk.model.setText(text, "fix"); },
       "fix"));
     return box;
   }
@@ -208,13 +210,13 @@ class VerdictPanel {
   /** Shows a line of the report with its words and its fix. A press goes to its time and cell. */
   showFault(box, fault) {
     const entry = this.explanation ? this.explanation.entries.find(({ line }) => line === fault.text) : null;
-    box.append(button(fault.text, () => this.goTo(fault), "fault"));
-    for (const words of entry ? entry.what : []) box.append(appendWords(newElement("p"), words));
+    box.append(newButton(fault.text, () => this.goToFault(fault), "fault"));
+    for (const words of entry ? entry.what : []) box.append(appendTextWithCode(newElement("p"), words));
     if (entry && entry.fix) box.append(this.fixBox(entry.fix));
   }
 
   /** Shows a fault where and when it is. */
-  goTo({ cell, time, on }) {
+  goToFault({ cell, time, on }) {
     const { desk, sketch } = this;
     if (on) {
       for (const name of desk.player.names) if (desk.player.on.has(name) !== on.includes(name)) desk.setInput(name,
@@ -223,7 +225,7 @@ class VerdictPanel {
     }
     if (time !== undefined) desk.player.seek(time);
     if (cell) sketch.lookAt([cell[0] + 0.5, cell[1] + 0.5], null);
-    element("whole").scrollIntoView({ block: "nearest" });
+    elementById("whole").scrollIntoView({ block: "nearest" });
   }
 }
 

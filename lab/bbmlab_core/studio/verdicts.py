@@ -7,12 +7,12 @@ from dataclasses import dataclass, field
 from typing import Any, Sequence
 
 from ..certify.certifier import CertificateOptions, certified_text
-from ..explain.diagnosis import Diagnosis, Tristate
+from ..explain.diagnosis import DiagnosticRuns, Tristate
 from ..explain.explaining import explain_report, tried_in_vain_words
 from ..explain.fixing import Fix, Fixer, outcome_words
-from ..explain.trials import Budget, TrialRunner
+from ..explain.trials import TrialBudget, TrialRunner
 from ..host.processor import processor_seconds
-from ..host.program import Answer, Executable, BadProgramError, ProgramTimeout, ask
+from ..host.program import ProgramAnswer, Executable, BadProgramError, ProgramTimeout, ask_program
 from ..host.terminal import LabError
 from ..texts.certificates import MAX_BOX_SIDE, MAX_CUTS, MAX_USES, Certificate, whole_module
 from ..texts.circuits import Circuit, values_and_undefined_gate
@@ -20,13 +20,13 @@ from ..texts.documents import Document, read_document
 from ..texts.layouts import Cell, Layout
 from ..texts.refusals import explain_code, explain_refusal
 from ..texts.reports import ReportLine, ReportOrRefusal, ReportError, parse_report
-from ..texts.skimming import cuts_of, design_text
-from ..texts.spelling import source_line_number, spelling_of
+from ..texts.skimming import cuts_by_module, design_text
+from ..texts.spelling import source_line_number, spell_text
 
 # The most lines of a report for which fixes are looked for one by one, and the most lines that are sent to the page.
 MAX_FIXED_LINES, MAX_SENT_LINES = 6, 200
-NO_OTHER_FOUND = {"own": "The certificate of the text was checked. The lab found no other one:",
-                  "earlier": "The last certificate that got a yes was checked. The lab found no other one:"}
+NO_OTHER_CERTIFICATE_WORDS = {"own": "The certificate of the text was checked. The lab found no other one:",
+                              "earlier": "The last certificate that got a yes was checked. The lab found no other one:"}
 
 
 @dataclass
@@ -54,7 +54,7 @@ class Verdict:
     is_last: bool = True
 
 
-class Judge:
+class VerdictFinder:
     """Asks the program about one text, within a number of seconds.
 
     `earlier` is a certificate that got a yes before the last edits.
@@ -62,14 +62,14 @@ class Judge:
 
     def __init__(self, text: str, program: Executable, seconds: float, earlier: str = "") -> None:
         self.source, self.program, self.seconds, self.earlier = text, program, seconds, earlier
-        self.text = spelling_of(text).text
+        self.text = spell_text(text).text
         self.head = design_text(self.text)
         self.until = processor_seconds() + seconds
         self.inputs: Sequence[str] = ()
 
-    def ask(self, bundle: str) -> Answer:
+    def ask_program_about(self, bundle: str) -> ProgramAnswer:
         """Returns what the program answers to a bundle."""
-        return ask(self.program, "check", bundle.encode("latin-1"), self.seconds)
+        return ask_program(self.program, "check", bundle.encode("latin-1"), self.seconds)
 
     def verdict(self, stage: str = "") -> Verdict:
         """Returns the verdict: of the stage `first` that by the certificates which need no search, of `made` that by
@@ -78,7 +78,7 @@ class Judge:
         `other` is `made` after a no: no certificate is made if the program's runs show that none gets a yes.
         """
         try:
-            wrong = self.wrong_end_words(read_document(self.head, "design")) if stage == "other" else None
+            wrong = self.wrong_end_reason(read_document(self.head, "design")) if stage == "other" else None
             if wrong:
                 return Verdict("none", [wrong])
             is_first_wanted = stage not in ("made", "other")
@@ -104,7 +104,7 @@ class Judge:
             return own
         # The steps of a `delay` gate are shown by stops alone.
         has_delay = any(gate.kind == "delay" for gate in design.circuit.gates)
-        plain = None if has_delay else plain_certificate(design.circuit, design.layout)
+        plain = None if has_delay else one_module_certificate(design.circuit, design.layout)
         if plain:
             return self.bundle_verdict(self.head + plain, "plain")
         earlier = self.bundle_verdict(self.head + self.earlier, "earlier") if self.earlier else None
@@ -115,7 +115,7 @@ class Judge:
         found.is_last = False
         return found
 
-    def wrong_end_words(self, design: Document) -> str | None:
+    def wrong_end_reason(self, design: Document) -> str | None:
         """Says why no certificate gets a yes, if the program's run with all inputs on, or with none, does not end as
         the circuit and the layout ask."""
         circuit, layout = design.circuit, design.layout
@@ -125,7 +125,7 @@ class Judge:
         for words, on in choices:
             lines = [self.head[self.head.find("\nlayout ") + 1:].rstrip("\n"), "assign", *(f"on {name}" for name in on),
                      "end", ""]
-            answer = ask(self.program, "run", "\n".join(lines).encode("latin-1"), self.seconds)
+            answer = ask_program(self.program, "run", "\n".join(lines).encode("latin-1"), self.seconds)
             if answer.status != 0 or not answer.output.startswith("cells "):
                 return None
             live = {(int(x), int(y)) for x, y in (line.split(" ") for line in answer.output.split("\n")[1:-1])}
@@ -142,7 +142,7 @@ class Judge:
         self.inputs = design.circuit.inputs if design.circuit else ()
         made = self.certify_and_judge(design)
         if made.verdict == "none" and first.verdict == "no":
-            first.words += [NO_OTHER_FOUND[first.by], *made.words]
+            first.words += [NO_OTHER_CERTIFICATE_WORDS[first.by], *made.words]
             first.is_last = True
             return first
         return made
@@ -155,7 +155,7 @@ class Judge:
             quick = self.bundle_verdict(certified_text(design, None, plan), "certify")
             if quick.verdict == "yes":
                 return quick
-            outcome = Diagnosis(read_document(quick.bundle, "check")).whole_outcome
+            outcome = DiagnosticRuns(read_document(quick.bundle, "check")).whole_run_outcome
             if outcome.correctness is Tristate.NO:
                 quick.words.append(outcome.why_no_yes)
                 return quick
@@ -167,7 +167,7 @@ class Judge:
 
     def bundle_verdict(self, bundle: str, by: str) -> Verdict:
         """Returns what the program says of a bundle."""
-        answer = self.ask(bundle)
+        answer = self.ask_program_about(bundle)
         if answer.status not in (0, 1, 3):
             raise BadProgramError(f"the program ended with status {answer.status}: {answer.errors}")
         report = parse_report(answer.output)
@@ -175,7 +175,7 @@ class Judge:
             return self.refusal_verdict(bundle, report.refused, answer.output)
         if (answer.status, report.verdict) not in ((0, "yes"), (1, "no")):
             raise ReportError(f"the program ended with status {answer.status} and wrote `verdict {report.verdict}`")
-        found, cuts = report.faults[:MAX_SENT_LINES], cuts_of(bundle) if report.faults else []
+        found, cuts = report.faults[:MAX_SENT_LINES], cuts_by_module(bundle) if report.faults else []
         faults = [fault_json(cuts, self.inputs, finding) for finding in found]
         count = len(report.faults)
         words = [] if report.verdict == "yes" else [
@@ -206,7 +206,7 @@ def wrong_cell(circuit: Circuit, layout: Layout, on: set[str], live: set[Cell]) 
     return min((wanted | layout.mirror_cells() - free) ^ (live - free), default=None)
 
 
-def plain_certificate(circuit: Circuit, layout: Layout) -> str | None:
+def one_module_certificate(circuit: Circuit, layout: Layout) -> str | None:
     """Returns a certificate of one module for the whole layout that cuts all inputs and uses all gates, or None if it
     is too large.
 
@@ -223,11 +223,11 @@ def fault_json(cuts: list[list[str]], inputs: Sequence[str], finding: ReportLine
     cuts inputs alone."""
     form: dict[str, Any] = {"text": finding.text}
     if "x" in finding.values:
-        form |= {"cell": [finding.number("x"), finding.number("y")], "time": finding.number("time")}
+        form |= {"cell": [finding.number_value("x"), finding.number_value("y")], "time": finding.number_value("time")}
     if "assignment" in finding.values:
-        names = cuts[finding.number("module")]
+        names = cuts[finding.number_value("module")]
         if set(names) <= set(inputs):
-            form["on"] = [name for index, name in enumerate(names) if finding.number("assignment") >> index & 1]
+            form["on"] = [name for index, name in enumerate(names) if finding.number_value("assignment") >> index & 1]
     return form
 
 
@@ -239,8 +239,8 @@ def explanation_json(text: str, bundle: str, output: str, program: Executable, s
 
     `text` is the page's, `bundle` is what the program read.
     """
-    trial = TrialRunner(program, Budget(200, seconds))
-    has_own = design_text(spelling_of(text).text) != spelling_of(text).text
+    trial = TrialRunner(program, TrialBudget(200, seconds))
+    has_own = design_text(spell_text(text).text) != spell_text(text).text
     report = parse_report(output)
     document = read_document(bundle, "check")
     made = explain_report(document, report, "", None)
@@ -251,7 +251,7 @@ def explanation_json(text: str, bundle: str, output: str, program: Executable, s
     forms = {entry["line"]: entry for entry in entries}
     # Without a certificate of its own a text has no lines that fixes of single lines could change.
     if has_own and not report.refused and document.certificate:
-        diagnosis = Diagnosis(document)
+        diagnosis = DiagnosticRuns(document)
         for finding in report.faults[:MAX_FIXED_LINES]:
             fix = fixer.find_fix_of_line(diagnosis, finding)
             if fix and finding.text in forms:
@@ -273,7 +273,7 @@ def fix_json(fix: Fix | None, report: ReportOrRefusal, has_own: bool) -> dict[st
 
 def design_explanation_json(text: str, program: Executable, seconds: float) -> dict[str, Any]:
     """Returns fixes of a text for which no certificate was found."""
-    trial, head = TrialRunner(program, Budget(200, seconds)), design_text(spelling_of(text).text)
+    trial, head = TrialRunner(program, TrialBudget(200, seconds)), design_text(spell_text(text).text)
     report = trial.try_text(head)
     fixer = Fixer(head, report, trial) if report else None
     whole = fixer.find_fix() if fixer else None

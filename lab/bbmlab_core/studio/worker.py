@@ -20,47 +20,47 @@ from typing import Any
 from ..explain import explaining
 from ..host import program
 from ..host.program import Executable
-from ..host.signals import keep_interrupting
+from ..host.signals import start_interrupt_timer
 from ..host.terminal import LabError
 from ..physics import tracing
 from ..pictures import drawing, golly
 from ..texts.documents import Document, read_document
 from ..texts.layouts import Layout
 from ..texts.reports import ReportError
-from ..texts.spelling import spelling_of
+from ..texts.spelling import spell_text
 from ..view import viewing
-from .folder import FolderError, bytes_of
-from .verdicts import Judge, explanation_json, design_explanation_json
+from .folder import FolderError, encode_page_text
+from .verdicts import VerdictFinder, explanation_json, design_explanation_json
 
 # How many seconds a search for fixes takes, at most.
-FIX_SECONDS = 8.0
+MAX_FIX_SECONDS = 8.0
 # The forms in which a text is exported.
 EXPORT_FORMS = ("svg", "golly", "page")
 
 
 def byte_characters(text: str) -> str:
     """Returns a text of the page as the lab has it: one character for each byte."""
-    return bytes_of(text).decode("latin-1")
+    return encode_page_text(text).decode("latin-1")
 
 
-def verdict(job: dict[str, Any], asked: Executable, seconds: float) -> dict[str, Any]:
+def verdict_answer(job: dict[str, Any], asked: Executable, seconds: float) -> dict[str, Any]:
     """Returns the verdict on a text."""
-    judge = Judge(byte_characters(job["text"]), asked, seconds, byte_characters(job.get("earlier", "")))
+    judge = VerdictFinder(byte_characters(job["text"]), asked, seconds, byte_characters(job.get("earlier", "")))
     return asdict(judge.verdict(job.get("stage", "")))
 
 
-def explain(job: dict[str, Any], asked: Executable, seconds: float) -> dict[str, Any]:
+def explanation_answer(job: dict[str, Any], asked: Executable, seconds: float) -> dict[str, Any]:
     """Returns a verdict in words, with fixes. Without a report it is one of a text for which no certificate was found.
     """
-    limit = min(FIX_SECONDS, seconds)
+    limit = min(MAX_FIX_SECONDS, seconds)
     if not job["report"]:
         return design_explanation_json(byte_characters(job["text"]), asked, limit)
     return explanation_json(byte_characters(job["text"]), job["bundle"], job["report"], asked, limit)
 
 
-def export(job: dict[str, Any], asked: Executable, seconds: float) -> dict[str, Any]:
+def export_answer(job: dict[str, Any], asked: Executable, seconds: float) -> dict[str, Any]:
     """Returns a text in another form: `svg`, `golly` or `page`."""
-    document = read_document(spelling_of(byte_characters(job["bundle"] or job["text"])).text)
+    document = read_document(spell_text(byte_characters(job["bundle"] or job["text"])).text)
     if document.refusal or document.layout is None:
         raise LabError("The text is refused, so it cannot be exported.")
     form, name = job["form"], str(job["name"])
@@ -74,9 +74,9 @@ def export(job: dict[str, Any], asked: Executable, seconds: float) -> dict[str, 
         return {"text": golly.golly_text(document.layout, start, on, tracing.layout_section_lines(document))}
     explanation = None
     if document.certificate:
-        answer = program.ask(asked, "check", document.text.encode("latin-1"), seconds)
+        answer = program.ask_program(asked, "check", document.text.encode("latin-1"), seconds)
         explanation = explaining.explain_answer(document.text, "check", answer.output, name, None, document)
-    return {"text": viewing.page_text(document, explanation, name)}
+    return {"text": viewing.page_html(document, explanation, name)}
 
 
 def ways_picture(document: Document, layout: Layout, name: str) -> str:
@@ -84,16 +84,17 @@ def ways_picture(document: Document, layout: Layout, name: str) -> str:
     shown = drawing.Drawing(modules=document.certificate.modules if document.certificate else [])
     on = tracing.chosen_inputs(document, None)
     shown.ways, shown.wire_labels = drawing.ball_ways_and_labels(document, None, layout.steps)
-    shown.title = f"{name}: ways of the balls{drawing.sampled_words(document)}"
-    most = len(drawing.COLOURS) if max(layout.width, layout.height) > drawing.LARGE_SIDE else drawing.MAX_LEGEND
+    shown.title = f"{name}: ways of the balls{drawing.sampling_note(document)}"
+    is_large = max(layout.width, layout.height) > drawing.LARGE_LAYOUT_SIDE
+    most = len(drawing.COLOURS) if is_large else drawing.MAX_LEGEND_WIRES
     wires = drawing.group_ways_by_level(shown, document.circuit, most) if document.circuit else on
-    return drawing.svg(layout, shown, wires)
+    return drawing.layout_svg(layout, shown, wires)
 
 
-JOB_HANDLERS = {"verdict": verdict, "explain": explain, "export": export}
+JOB_HANDLERS = {"verdict": verdict_answer, "explain": explanation_answer, "export": export_answer}
 
 
-def answer(line: str, asked: Executable, seconds: float) -> dict[str, Any]:
+def answer_job_line(line: str, asked: Executable, seconds: float) -> dict[str, Any]:
     """Returns the answer to one job."""
     try:
         job = json.loads(line)
@@ -129,12 +130,12 @@ def main() -> int:
     signal.signal(signal.SIGTERM, kill_program_and_exit)
     signal.signal(signal.SIGHUP, kill_program_and_exit)
     signal.signal(signal.SIGINT, signal.SIG_IGN)
-    keep_interrupting()
+    start_interrupt_timer()
     answers, sys.stdout = sys.stdout, sys.stderr
     jobs: "queue.SimpleQueue[str]" = queue.SimpleQueue()
     threading.Thread(target=read_jobs, args=(jobs,), daemon=True).start()
     while line := jobs.get():
-        answers.write(json.dumps(answer(line, asked, seconds)) + "\n")
+        answers.write(json.dumps(answer_job_line(line, asked, seconds)) + "\n")
         answers.flush()
     return 0
 

@@ -2,14 +2,14 @@
 
 from typing import Iterable
 
-from .lines import Lines, SectionReader, forms_of
+from .lines import SectionReader, TextLines, forms_by_keyword
 
 
 class AssignReader(SectionReader):
     """Reads an assign section."""
 
     name = "assign"
-    def __init__(self, lines: Lines, known: Iterable[str], command: str) -> None:
+    def __init__(self, lines: TextLines, known: Iterable[str], command: str) -> None:
         super().__init__(lines)
         self.known = dict.fromkeys(known)
         self.command = command
@@ -23,5 +23,6 @@ class AssignReader(SectionReader):
             self.lines.refuse(4, "on_twice", name=name, at=self.on[name])
         self.on[name] = self.lines.taken
 
-    readers = {"assign": SectionReader.read_nothing, "on NAME": read_on, "end": SectionReader.read_nothing}
-    forms = forms_of(*readers)
+    readers = {"assign": SectionReader.read_line_without_values, "on NAME": read_on,
+               "end": SectionReader.read_line_without_values}
+    forms = forms_by_keyword(*readers)

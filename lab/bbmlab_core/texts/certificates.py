@@ -6,9 +6,9 @@ from operator import attrgetter
 from typing import Any, Iterable, Iterator, NamedTuple, Sequence
 
 from .circuits import Circuit
-from .layouts import Box, Cell, Layout, Part
-from .lines import LineForm, Lines, SectionReader, forms_of, later_kinds
-from .owners import NOBODY, Owners
+from .layouts import Box, Cell, Layout, LayoutPart
+from .lines import LineForm, SectionReader, TextLines, forms_by_keyword, later_kinds
+from .owners import NOBODY, BlockOwners
 
 MAX_BOX_SIDE = 64
 MAX_CUTS = 12
@@ -57,14 +57,14 @@ class Stop(NamedTuple):
         return self.time, self.y, self.x
 
 
-def certificate_line_text(kind: str, line: Border | Stop) -> str:
+def border_or_stop_text(kind: str, line: Border | Stop) -> str:
     """Writes an `edge`, a `halo` or a `stop` line."""
     if isinstance(line, Stop):
         return f"stop {line.time} {line.name} {line.x} {line.y}"
     return f"{kind} {'*' if line.time is None else line.time} {line.x} {line.y} {line.signal}"
 
 
-def borders_in_order(lines: Iterable[Border]) -> tuple[Border, ...]:
+def sorted_borders(lines: Iterable[Border]) -> tuple[Border, ...]:
     """Returns `edge` or `halo` lines in the order of the formats: those with `*` first, then by time, y and x."""
     return tuple(sorted(lines, key=attrgetter("order_key")))
 
@@ -100,11 +100,11 @@ class Module:
 
     def edge(self, time: int | None, x: int, y: int, signal: str) -> "Module":
         """Returns the module with one more `edge` line."""
-        return replace(self, edges=borders_in_order((*self.edges, Border(time, x, y, signal))))
+        return replace(self, edges=sorted_borders((*self.edges, Border(time, x, y, signal))))
 
     def halo(self, time: int | None, x: int, y: int, signal: str) -> "Module":
         """Returns the module with one more `halo` line."""
-        return replace(self, halos=borders_in_order((*self.halos, Border(time, x, y, signal))))
+        return replace(self, halos=sorted_borders((*self.halos, Border(time, x, y, signal))))
 
     def stop(self, time: int, name: str, x: int, y: int) -> "Module":
         """Returns the module with one more `stop` line."""
@@ -114,9 +114,9 @@ class Module:
         """Writes the module's lines."""
         lines = [f"module {self.box.numbers_text}", *(f"cut {name}" for name in self.cuts),
                  *(f"use {gate}" for gate in self.uses), *(f"keep {gate}" for gate in self.keeps),
-                 *(certificate_line_text("edge", line) for line in self.edges),
-                 *(certificate_line_text("halo", line) for line in self.halos),
-                 *(certificate_line_text("stop", line) for line in self.stops)]
+                 *(border_or_stop_text("edge", line) for line in self.edges),
+                 *(border_or_stop_text("halo", line) for line in self.halos),
+                 *(border_or_stop_text("stop", line) for line in self.stops)]
         return "\n".join(lines) + "\n"
 
     def border_lines(self, kind: str) -> tuple[Border, ...]:
@@ -167,7 +167,7 @@ class ModuleDraft:
     halos: list[Border] = field(default_factory=list)
     stops: list[Stop] = field(default_factory=list)
 
-    def module(self) -> Module:
+    def finished_module(self) -> Module:
         """Returns the module with the lines that were found."""
         return Module(self.box, tuple(self.cuts), tuple(self.uses), tuple(self.keeps), tuple(self.edges),
                       tuple(self.halos), tuple(self.stops), self.number, self.line)
@@ -195,13 +195,13 @@ class Certificate:
         return f"certificate {self.version}\n{''.join(map(str, self.modules))}end\n"
 
     @cached_property
-    def owners(self) -> Owners:
+    def owners(self) -> BlockOwners:
         """Which module owns each block."""
         boxes = [module.box for module in self.modules]
-        owners = Owners(max((box.x + box.width for box in boxes), default=0),
-                        max((box.y + box.height for box in boxes), default=0))
+        owners = BlockOwners(max((box.x + box.width for box in boxes), default=0),
+                             max((box.y + box.height for box in boxes), default=0))
         for number, box in enumerate(boxes):
-            owners.give_blocks(box, number)
+            owners.give_blocks_if_free(box, number)
         return owners
 
     def owner(self, cell: Cell) -> Module | None:
@@ -231,10 +231,10 @@ class CertificateReader(SectionReader):
 
     name = "certificate"
 
-    def __init__(self, lines: Lines, circuit: Circuit, layout: Layout) -> None:
+    def __init__(self, lines: TextLines, circuit: Circuit, layout: Layout) -> None:
         super().__init__(lines)
         self.circuit, self.layout = circuit, layout
-        self.owners = Owners(layout.width, layout.height)
+        self.owners = BlockOwners(layout.width, layout.height)
         self.version = 0
         self.modules: list[Module] = []
         # The module that is open, the line that makes each wire known in it, and those that name cells at all times.
@@ -242,20 +242,21 @@ class CertificateReader(SectionReader):
         self.local: dict[str, int] = {}
         self.stars: dict[str, dict[Cell, int]] = {}
         # The `in` and `out` cells with their lines, by tiles of a usual box's size.
-        self.ports: dict[Cell, list[Part]] = {}
+        self.ports: dict[Cell, list[LayoutPart]] = {}
         for port in layout.parts:
             if port.kind in ("in", "out"):
                 self.ports.setdefault((port.x // PORT_TILE_SIDE, port.y // PORT_TILE_SIDE), []).append(port)
 
-    def section(self) -> Certificate:
+    def section_so_far(self) -> Certificate:
         """Returns the certificate, of a text that is refused what came before."""
-        return Certificate(self.version, tuple([*self.modules, self.draft.module()] if self.draft else self.modules))
+        return Certificate(self.version, tuple([*self.modules, self.draft.finished_module()] if self.draft
+                                               else self.modules))
 
-    def forms_now(self) -> dict[str, LineForm]:
+    def current_forms(self) -> dict[str, LineForm]:
         """Returns the forms, in version 2 without `halo`."""
         return self.forms_of_version_2 if self.version == 2 else self.forms
 
-    def require_draft(self, kind: str) -> ModuleDraft:
+    def require_open_module(self, kind: str) -> ModuleDraft:
         """Returns the module that is open. Refuses a line before the first one, and a kind after a later kind."""
         if self.draft is None:
             self.lines.refuse(6, "before_first_module", kind=kind)
@@ -281,15 +282,15 @@ class CertificateReader(SectionReader):
             self.lines.refuse(8, "box_odd", box=box)
         if x + width > self.layout.width or y + height > self.layout.height:
             self.lines.refuse(8, "box_outside", box=box, size=(self.layout.width, self.layout.height))
-        self.take_box(box)
+        self.open_module(box)
         for kind in KIND_ORDER:
             self.kind_lines.pop(kind, None)
 
-    def take_box(self, box: Box) -> None:
+    def open_module(self, box: Box) -> None:
         """Opens a module, whose box lies over no earlier one."""
         number = len(self.modules)
-        if not self.owners.give_blocks(box, number):
-            cell, owner = self.owners.first_owned_block(box)
+        if not self.owners.give_blocks_if_free(box, number):
+            cell, owner = self.owners.first_owned_block_and_owner(box)
             other = self.modules[owner]
             self.lines.refuse(8, "box_overlap", box=box, other=owner, other_box=other.box, at=other.line, cell=cell)
         self.draft = ModuleDraft(box, number, self.lines.taken)
@@ -297,7 +298,7 @@ class CertificateReader(SectionReader):
 
     def read_cut(self, name: str) -> None:
         """Reads a line `cut`."""
-        module = self.require_draft("cut")
+        module = self.require_open_module("cut")
         if len(module.cuts) == MAX_CUTS:
             self.lines.refuse(2, "cut_count", module=module.number, name=name)
         self.require_wire(name)
@@ -313,7 +314,7 @@ class CertificateReader(SectionReader):
 
     def read_use(self, number: int) -> None:
         """Reads a line `use`."""
-        module = self.require_draft("use")
+        module = self.require_open_module("use")
         self.require_rising_gate("use", module.uses, number)
         if len(module.uses) == MAX_USES:
             self.lines.refuse(2, "use_count", module=module.number)
@@ -332,7 +333,7 @@ class CertificateReader(SectionReader):
 
     def read_keep(self, number: int) -> None:
         """Reads a line `keep`."""
-        module = self.require_draft("keep")
+        module = self.require_open_module("keep")
         self.require_rising_gate("keep", module.keeps, number)
         if number >= len(self.circuit.gates):
             self.lines.refuse(3, "gate_unknown", number=number, count=len(self.circuit.gates))
@@ -348,7 +349,7 @@ class CertificateReader(SectionReader):
         if name not in self.circuit.wires:
             self.lines.refuse(3, "wire_unknown", name=name, known=list(self.circuit.wires))
 
-    def require_local(self, name: str, kind: str, module: ModuleDraft) -> None:
+    def require_local_wire(self, name: str, kind: str, module: ModuleDraft) -> None:
         """Refuses a name that is no wire, or none that the module knows."""
         self.require_wire(name)
         if name not in self.local:
@@ -367,12 +368,12 @@ class CertificateReader(SectionReader):
 
     def read_border(self, time: int | None, x: int, y: int, signal: str, kind: str) -> None:
         """Reads an `edge` or `halo` line."""
-        module, line = self.require_draft(kind), Border(time, x, y, signal)
+        module, line = self.require_open_module(kind), Border(time, x, y, signal)
         lines = module.edges if kind == "edge" else module.halos
         self.require_rising_line(kind, lines, line)
         self.require_border_place(kind, line, module)
         if signal != "1":
-            self.require_local(signal, kind, module)
+            self.require_local_wire(signal, kind, module)
         if time is None:
             self.stars[kind][line.cell] = self.lines.taken
         lines.append(line)
@@ -402,15 +403,15 @@ class CertificateReader(SectionReader):
 
     def read_stop(self, time: int, name: str, x: int, y: int) -> None:
         """Reads a line `stop`."""
-        module, stop = self.require_draft("stop"), Stop(time, name, x, y)
+        module, stop = self.require_open_module("stop"), Stop(time, name, x, y)
         self.require_rising_line("stop", module.stops, stop)
         late, outside = time > self.layout.steps, not module.box.has((x, y))
         if late or outside:
             self.refuse_place(stop, ["stop_late"] * late + ["stop_outside"] * outside, module, None)
-        self.require_local(name, "stop", module)
+        self.require_local_wire(name, "stop", module)
         module.stops.append(stop)
 
-    def ports_in(self, box: Box) -> Iterator[Part]:
+    def ports_in(self, box: Box) -> Iterator[LayoutPart]:
         """Yields the `in` and `out` cells of a box."""
         for row in range(box.y // PORT_TILE_SIDE, (box.y + box.height - 1) // PORT_TILE_SIDE + 1):
             for column in range(box.x // PORT_TILE_SIDE, (box.x + box.width - 1) // PORT_TILE_SIDE + 1):
@@ -426,7 +427,7 @@ class CertificateReader(SectionReader):
             missing.sort(key=lambda port: port.line)
             makers = {port.name: self.circuit.maker.get(port.name or "") for port in missing}
             self.lines.refuse(11, "port_not_local", module=module.number, at=module.line, ports=missing, makers=makers)
-        self.modules.append(module.module())
+        self.modules.append(module.finished_module())
         self.draft = None
 
     def read_end(self) -> None:
@@ -443,7 +444,7 @@ class CertificateReader(SectionReader):
     def require_neighbour_wires(self) -> None:
         """Refuses a module that does not know the wire of an edge line beside it."""
         missing: list[tuple[int, Border, int, int]] = []
-        certificate = self.section()
+        certificate = self.section_so_far()
         for module in certificate.modules:
             local = local_wires(self.circuit, module)
             for other in certificate.neighbours(module):
@@ -457,5 +458,5 @@ class CertificateReader(SectionReader):
         "use GATE": read_use,
         "keep GATE": read_keep, "edge TIME X Y SIGNAL": partial(read_border, kind="edge"),
         "halo TIME X Y SIGNAL": partial(read_border, kind="halo"), "stop T NAME X Y": read_stop, "end": read_end}
-    forms = forms_of(*readers)
+    forms = forms_by_keyword(*readers)
     forms_of_version_2 = {word: form for word, form in forms.items() if word != "halo"}

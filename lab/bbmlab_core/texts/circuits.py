@@ -5,8 +5,8 @@ from dataclasses import dataclass, field, replace
 from functools import cached_property, partial
 from typing import Any, Iterable, Sequence
 
-from .gates import GATE_SIZES, INVERSE_GATES, Table, gate_tables, input_tables
-from .lines import Lines, SectionReader, forms_of, later_kinds, match_line, section_text
+from .gates import GATE_SIZES, INVERSE_GATES, TruthTable, gate_tables, input_tables
+from .lines import SectionReader, TextLines, forms_by_keyword, later_kinds, match_line, section_text
 
 MAX_DELAY = 4096
 # The gates whose line has a number: the bit of a source, or the steps of a delay.
@@ -126,10 +126,10 @@ class WireTables:
     """
 
     free: list[str]
-    full: Table
-    tables: dict[str, Table]
+    full: TruthTable
+    tables: dict[str, TruthTable]
     # The columns at which each gate and all gates before it have a row.
-    defined_columns_by_gate: dict[int, Table]
+    defined_columns_by_gate: dict[int, TruthTable]
     is_all: bool = True
 
     def true_free_wires(self, column: int) -> list[str]:
@@ -137,7 +137,7 @@ class WireTables:
         return [name for name in self.free if self.tables[name] >> column & 1]
 
     @cached_property
-    def defined_columns(self) -> Table:
+    def defined_columns(self) -> TruthTable:
         """The columns at which all gates have a row."""
         defined = self.full
         for table in self.defined_columns_by_gate.values():
@@ -145,7 +145,7 @@ class WireTables:
         return defined
 
     @property
-    def choices_words(self) -> str:
+    def tried_choices_words(self) -> str:
         """In how many choices of the inputs something was tried, in words."""
         count = self.full.bit_length()
         if self.is_all:
@@ -156,7 +156,7 @@ class WireTables:
 def evaluate_gates(circuit: Circuit, free: Sequence[str], gates: Iterable[int]) -> WireTables:
     """Returns the tables of the free wires and of the outputs of `gates`, in order of gates, over all assignments."""
     full = (1 << (1 << len(free))) - 1
-    return evaluate_under(circuit, dict(zip(free, input_tables(len(free)))), full, gates)
+    return evaluate_under_tables(circuit, dict(zip(free, input_tables(len(free)))), full, gates)
 
 
 def evaluate_all(circuit: Circuit) -> WireTables:
@@ -169,7 +169,7 @@ def evaluate_all_or_samples(circuit: Circuit, most_inputs: int, samples: int) ->
     return evaluate_all(circuit) if len(circuit.inputs) <= most_inputs else evaluate_samples(circuit, samples)
 
 
-def sampled_tables(names: Sequence[str], count: int, first: Iterable[str] = (), seed: int = 1) -> dict[str, Table]:
+def sampled_tables(names: Sequence[str], count: int, first: Iterable[str] = (), seed: int = 1) -> dict[str, TruthTable]:
     """Returns a table for each of some free wires in `count` sampled choices of them. In the first choice those of
     `first` are on.
 
@@ -200,12 +200,13 @@ def evaluate_samples(circuit: Circuit, count: int, first: Iterable[str] = ()) ->
     In the first choice the inputs of `first` are on.
     """
     tables = sampled_tables(circuit.inputs, count, first)
-    values = evaluate_under(circuit, tables, (1 << count) - 1, range(len(circuit.gates)))
+    values = evaluate_under_tables(circuit, tables, (1 << count) - 1, range(len(circuit.gates)))
     values.is_all = False
     return values
 
 
-def evaluate_under(circuit: Circuit, free: dict[str, Table], full: Table, gates: Iterable[int]) -> WireTables:
+def evaluate_under_tables(circuit: Circuit, free: dict[str, TruthTable], full: TruthTable,
+                          gates: Iterable[int]) -> WireTables:
     """Returns the tables of wires that follow from those of the free wires by `gates`, in order of gates.
 
     `full` has all columns.
@@ -238,7 +239,7 @@ class CircuitReader(SectionReader):
 
     name = "circuit"
 
-    def __init__(self, lines: Lines) -> None:
+    def __init__(self, lines: TextLines) -> None:
         super().__init__(lines)
         self.inputs: list[str] = []
         self.gates: list[Gate] = []
@@ -248,7 +249,7 @@ class CircuitReader(SectionReader):
         self.defined: dict[str, int] = {}
         self.consumed: dict[str, int] = {}
 
-    def section(self) -> Circuit:
+    def section_so_far(self) -> Circuit:
         """Returns the circuit, of a text that is refused what came before."""
         return Circuit(tuple(self.inputs), tuple(self.gates), tuple(self.outputs), tuple(self.spills))
 
@@ -256,18 +257,18 @@ class CircuitReader(SectionReader):
         """Reads a line `input`."""
         self.require_kind_order("input", LATER_KINDS)
         self.require_wire_room([name])
-        self.define([name])
+        self.define_wires([name])
         self.inputs.append(name)
 
     def read_output(self, name: str) -> None:
         """Reads a line `output`."""
         self.require_kind_order("output", LATER_KINDS)
-        self.consume([name])
+        self.consume_wires([name])
         self.outputs.append(name)
 
     def read_spill(self, name: str) -> None:
         """Reads a line `spill`."""
-        self.consume([name])
+        self.consume_wires([name])
         self.spills.append(name)
 
     def read_gate(self, *values: Any, kind: str) -> None:
@@ -279,8 +280,8 @@ class CircuitReader(SectionReader):
         self.require_wire_room(gate.outs)
         if len(self.gates) == self.lines.limits.max_gates:
             self.lines.refuse(2, "gate_count", limits=self.lines.limits)
-        self.consume(gate.ins)
-        self.define(gate.outs)
+        self.consume_wires(gate.ins)
+        self.define_wires(gate.outs)
         self.gates.append(gate)
         self.kind_lines["gate"] = self.lines.taken
 
@@ -295,7 +296,7 @@ class CircuitReader(SectionReader):
         if len(self.defined) + len(outs) > self.lines.limits.max_wires:
             self.lines.refuse(2, "wire_count", limits=self.lines.limits)
 
-    def consume(self, names: Iterable[str]) -> None:
+    def consume_wires(self, names: Iterable[str]) -> None:
         """Consumes wires from the left, each of which is defined and not yet consumed."""
         for name in names:
             if name not in self.defined:
@@ -304,7 +305,7 @@ class CircuitReader(SectionReader):
                 self.lines.refuse(5, "wire_consumed", name=name, at=self.consumed[name])
             self.consumed[name] = self.lines.taken
 
-    def define(self, names: Iterable[str]) -> None:
+    def define_wires(self, names: Iterable[str]) -> None:
         """Defines wires from the left, none of which is defined yet."""
         for name in names:
             if name in self.defined:
@@ -312,7 +313,7 @@ class CircuitReader(SectionReader):
             self.defined[name] = self.lines.taken
 
     readers = {
-        "circuit": SectionReader.read_nothing, "input NAME": read_input,
+        "circuit": SectionReader.read_line_without_values, "input NAME": read_input,
         "source BIT -> NAME": partial(read_gate, kind="source"),
         "fredkin A B C -> D E F": partial(read_gate, kind="fredkin"),
         "cswap A B C -> D E F": partial(read_gate, kind="cswap"),
@@ -322,4 +323,4 @@ class CircuitReader(SectionReader):
         "unswitch A B C -> D E": partial(read_gate, kind="unswitch"),
         "uninteract A B C D -> E F": partial(read_gate, kind="uninteract"),
         "output NAME": read_output, "spill NAME": read_spill, "end": read_end}
-    forms = forms_of(*readers)
+    forms = forms_by_keyword(*readers)

@@ -2,16 +2,16 @@
 
 import argparse
 
-from ..host.terminal import LabError, read_text
+from ..host.terminal import LabError, read_latin1_text
 from .documents import Document, read_document
 from .layouts import Layout
 from .refusals import refusal_words
 from .reports import ReportLine, ReportOrRefusal, ReportError, parse_report
 from .skimming import certificate_digest, certificate_start
-from .spelling import source_line_number, spelling_of
+from .spelling import source_line_number, spell_text
 
 
-def read_freely_written(name: str, text: str, command: str | None = None) -> Document:
+def read_freely_written_text(name: str, text: str, command: str | None = None) -> Document:
     """Returns a text that may be written freely, with comments, any spaces and unsorted lists: as it is in the one
     spelling.
 
@@ -20,7 +20,7 @@ def read_freely_written(name: str, text: str, command: str | None = None) -> Doc
     document = read_document(text, command)
     if document.refusal is None:
         return document
-    made = spelling_of(text).text
+    made = spell_text(text).text
     free = read_document(made, command) if made != text else document
     if free.refusal is None:
         return free
@@ -39,19 +39,19 @@ def read_layout_file(name: str, has_certificate: bool = True) -> tuple[Document,
 
     The certificate of a long text is not read if it is not needed.
     """
-    text = read_text(name)
+    text = read_latin1_text(name)
     place = certificate_start(text)
     if 0 < place < len(text) and not has_certificate and len(text) > LONG_TEXT_CHARACTERS:
-        document = read_freely_written(name, text[:place], "design")
+        document = read_freely_written_text(name, text[:place], "design")
         document.text = text
     else:
-        document = read_freely_written(name, text)
+        document = read_freely_written_text(name, text)
     if document.layout is None:
         raise LabError(f"{name}: the text has no layout", 1)
     return document, document.layout
 
 
-def require_report_of(document: Document, report: ReportOrRefusal) -> None:
+def require_report_of_document(document: Document, report: ReportOrRefusal) -> None:
     """Refuses a report whose digest is not that of the text's certificate, or whose lines are not of things that the
     text has."""
     digest = certificate_digest(document.text)
@@ -104,7 +104,7 @@ def report_from_option(options: argparse.Namespace, document: Document) -> Repor
     """
     if not options.report:
         return None
-    report = parse_report(read_text(options.report))
+    report = parse_report(read_latin1_text(options.report))
     if not report.refused:
-        require_report_of(document, report)
+        require_report_of_document(document, report)
     return report

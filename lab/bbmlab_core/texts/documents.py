@@ -10,8 +10,8 @@ from .assigns import AssignReader
 from .certificates import Certificate, CertificateReader
 from .circuits import Circuit, CircuitReader
 from .layouts import Layout, LayoutReader
-from .limits import Limits, limits_of
-from .lines import Lines, Refusal, RefusedTextError
+from .limits import Limits, limits_of_text
+from .lines import Refusal, RefusedTextError, TextLines
 
 BUNDLE_COMMANDS = ("check", "modules", "migrate")
 HEADER_WORDS = ("circuit", "layout", "assign", "certificate")
@@ -34,7 +34,7 @@ class Document:
     @property
     def limits(self) -> Limits:
         """The limits of the text."""
-        return limits_of(self.text)
+        return limits_of_text(self.text)
 
     def line(self, number: int) -> str:
         """Returns a line of the text, counted from 1, or nothing."""
@@ -42,12 +42,12 @@ class Document:
         return lines[number - 1] if number <= len(lines) else ""
 
 
-def decode(data: bytes) -> str:
+def decode_latin1(data: bytes) -> str:
     """Returns the bytes of a text as characters, one for each byte."""
     return data.decode("latin-1")
 
 
-def command_for(text: str) -> str:
+def command_for_text(text: str) -> str:
     """Returns the command of the program that the text is meant for, by its sections.
 
     `design` is the lab's own: a circuit and a layout without a certificate.
@@ -77,7 +77,7 @@ def pause_garbage_collection() -> Iterator[None]:
             gc.enable()
 
 
-def read_sections(document: Document, lines: Lines) -> str:
+def read_sections(document: Document, lines: TextLines) -> str:
     """Reads the sections of the document's command, and returns the name of the last one."""
     command = document.command
     if command not in ("run", "layout"):
@@ -85,13 +85,13 @@ def read_sections(document: Document, lines: Lines) -> str:
         try:
             circuits.read()
         finally:
-            document.circuit = circuits.section()
+            document.circuit = circuits.section_so_far()
     if command not in ("value", "circuit"):
         layouts = LayoutReader(lines, document.circuit)
         try:
             layouts.read()
         finally:
-            document.layout = layouts.section()
+            document.layout = layouts.section_so_far()
     if command in ("run", "value"):
         known = document.circuit.inputs if document.circuit else [name for name, _, _ in layouts.ports["in"]]
         assign = AssignReader(lines, known, command)
@@ -104,19 +104,19 @@ def read_sections(document: Document, lines: Lines) -> str:
         try:
             certificates.read()
         finally:
-            document.certificate = certificates.section()
+            document.certificate = certificates.section_so_far()
         return "certificate"
     return "circuit" if command == "circuit" else "layout"
 
 
 def read_document(text: str, command: str | None = None) -> Document:
     """Reads a text as a command does. The text of a refusal is kept up to the line that is refused."""
-    document = Document(text, command or command_for(text))
+    document = Document(text, command or command_for_text(text))
     with pause_garbage_collection():
-        lines = Lines(text)
+        lines = TextLines(text)
         try:
             last = read_sections(document, lines)
-            lines.require_end(last)
+            lines.require_end_of_text(last)
         except RefusedTextError as refused:
             document.refusal = refused.refusal
     return document

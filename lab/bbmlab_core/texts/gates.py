@@ -12,11 +12,11 @@ GATE_SIZES = {
 }
 INVERSE_GATES = {"unswitch": "switch", "uninteract": "interact"}
 
-Table = int
-GateTables = tuple[list[Table], Table]
+TruthTable = int
+GateTables = tuple[list[TruthTable], TruthTable]
 
 
-def uninteract_tables(full: Table, a: Table, b: Table, c: Table, d: Table) -> GateTables:
+def uninteract_tables(full: TruthTable, a: TruthTable, b: TruthTable, c: TruthTable, d: TruthTable) -> GateTables:
     """Returns the outputs of `uninteract`, and where it has a row."""
     alone = b & ~(a | c | d) | c & ~(a | b | d)
     return [a | c, a | b], full & (~(a | b | c | d) | alone | a & d & ~(b | c))
@@ -34,7 +34,7 @@ GATE_RULES: dict[str, Callable[..., GateTables]] = {
 }
 
 
-def gate_tables(word: str, number: int | None, inputs: list[Table], full: Table) -> GateTables:
+def gate_tables(word: str, number: int | None, inputs: list[TruthTable], full: TruthTable) -> GateTables:
     """Returns the tables of a gate's outputs, and the table of the assignments under which the gate has a row.
 
     A table is a number whose bit A says whether a wire is true under assignment A. `full` has the bits of all
@@ -45,7 +45,7 @@ def gate_tables(word: str, number: int | None, inputs: list[Table], full: Table)
     return GATE_RULES[word](full, *inputs)
 
 
-def input_tables(count: int) -> list[Table]:
+def input_tables(count: int) -> list[TruthTable]:
     """Returns a table for each of `count` free wires: bit I of an assignment is the value of wire I."""
     tables = []
     for index in range(count):

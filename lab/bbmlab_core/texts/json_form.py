@@ -15,32 +15,32 @@ from .lines import NAME_PATTERN
 from .refusals import refusal_words
 from .reports import ReportOrRefusal
 
-FORMAT = "bbmlab bundle 1"
+BUNDLE_JSON_FORMAT = "bbmlab bundle 1"
 # Writes a text as JSON. `json.dumps` takes four times as long.
 json_string = json.JSONEncoder().encode
 
 
-def circuit_json(circuit: Circuit) -> dict[str, Any]:
+def circuit_members(circuit: Circuit) -> dict[str, Any]:
     """Returns a circuit as JSON values."""
     gates = [{"gate": gate.kind, "parameter": gate.parameter, "ins": gate.ins, "outs": gate.outs}
              for gate in circuit.gates]
     return {"inputs": circuit.inputs, "gates": gates, "outputs": circuit.outputs, "spills": circuit.spills}
 
 
-def layout_json(layout: Layout) -> dict[str, Any]:
+def layout_members(layout: Layout) -> dict[str, Any]:
     """Returns a layout as JSON values."""
     ins, outs = ([{"name": port.name, "cell": port.cell} for port in ports] for ports in (layout.ins, layout.outs))
     return {"width": layout.width, "height": layout.height, "steps": layout.steps, "mirrors": layout.mirrors,
             "balls": layout.balls, "ins": ins, "outs": outs, "wastes": layout.wastes}
 
 
-def module_json(module: Module) -> dict[str, Any]:
+def module_members(module: Module) -> dict[str, Any]:
     """Returns a module as JSON values. The time `*` is null."""
     return {"box": module.box, "cuts": module.cuts, "uses": module.uses, "keeps": module.keeps, "edges": module.edges,
             "halos": module.halos, "stops": module.stops}
 
 
-def report_json(report: ReportOrRefusal) -> dict[str, Any]:
+def report_members(report: ReportOrRefusal) -> dict[str, Any]:
     """Returns a report as JSON values."""
     if report.refused:
         return {"refused": {"line": report.refused[0], "code": report.refused[1]}}
@@ -52,21 +52,21 @@ def document_json_text(document: Document, report: ReportOrRefusal | None) -> st
     """Writes the sections of a text, and a report if there is one, as one JSON document."""
     if document.refusal:
         raise LabError(f"the text is refused: {refusal_words(document)}", 1)
-    parts: dict[str, Any] = {"format": FORMAT}
+    parts: dict[str, Any] = {"format": BUNDLE_JSON_FORMAT}
     if document.limits is not FIRST_LIMITS:
         parts["limits"] = document.limits.number
     if document.circuit:
-        parts["circuit"] = circuit_json(document.circuit)
+        parts["circuit"] = circuit_members(document.circuit)
     if document.layout:
-        parts["layout"] = layout_json(document.layout)
+        parts["layout"] = layout_members(document.layout)
     if document.on is not None:
         parts["assign"] = {"on": document.on}
     if document.certificate:
         certificate: Certificate = document.certificate
         parts["certificate"] = {"version": certificate.version,
-                                "modules": (module_json(module) for module in certificate.modules)}
+                                "modules": (module_members(module) for module in certificate.modules)}
     if report:
-        parts["report"] = report_json(report)
+        parts["report"] = report_members(report)
     with pause_garbage_collection():
         return indented_json(parts, "\n") + "\n"
 
@@ -96,7 +96,7 @@ def indented_json(value: Any, begin: str) -> str:
     return json.dumps(value)
 
 
-class Member:
+class JsonMember:
     """A value of a JSON document with its path, such as `certificate.modules[2].cuts[0]`.
 
     What is wrong with it is a `LabError`.
@@ -110,24 +110,24 @@ class Member:
         shown = json.dumps(self.value)
         return LabError(f"{self.path} is {shown if len(shown) <= 60 else shown[:57] + '...'}, and not {wanted}")
 
-    def __getitem__(self, name: str) -> "Member":
+    def __getitem__(self, name: str) -> "JsonMember":
         """Returns a member of an object."""
         if not isinstance(self.value, dict):
             raise self.error_for("an object")
         path = f"{self.path}.{name}" if self.path else name
         if name not in self.value:
             raise LabError(f"{path} is missing")
-        return Member(self.value[name], path)
+        return JsonMember(self.value[name], path)
 
-    def has(self, name: str) -> bool:
+    def has_member(self, name: str) -> bool:
         """Whether an object contains a member."""
         return isinstance(self.value, dict) and name in self.value
 
-    def list_items(self, count: int | None = None) -> "list[Member]":
+    def list_items(self, count: int | None = None) -> "list[JsonMember]":
         """Returns the values of a list, which has `count` of them if that is given."""
         if not isinstance(self.value, list) or count is not None and len(self.value) != count:
             raise self.error_for("a list" if count is None else f"a list of {count} values")
-        return [Member(value, f"{self.path}[{index}]") for index, value in enumerate(self.value)]
+        return [JsonMember(value, f"{self.path}[{index}]") for index, value in enumerate(self.value)]
 
     def number_text(self) -> str:
         """Returns a number as a text writes it."""
@@ -141,7 +141,7 @@ class Member:
             raise self.error_for("a name of a wire: a to z, then a to z, 0 to 9 and _, at most 32 of them")
         return str(self.value)
 
-    def signal(self) -> str:
+    def signal_text(self) -> str:
         """Returns a name of a wire, or `1`."""
         return "1" if self.value == "1" else self.wire_name()
 
@@ -154,7 +154,7 @@ class Member:
         return " ".join(item.number_text() for item in self.list_items(count))
 
 
-def gate_text(gate: Member) -> str:
+def gate_line_from_json(gate: JsonMember) -> str:
     """Returns the line of a gate."""
     word, parameter = gate["gate"].value, gate["parameter"]
     if not isinstance(word, str) or word not in GATE_SIZES:
@@ -167,17 +167,17 @@ def gate_text(gate: Member) -> str:
                      *(item.wire_name() for item in gate["outs"].list_items(outs))])
 
 
-def circuit_lines(circuit: Member) -> list[str]:
+def circuit_lines_from_json(circuit: JsonMember) -> list[str]:
     """Returns the lines of a circuit."""
     return ["circuit", *(f"input {item.wire_name()}" for item in circuit["inputs"].list_items()),
-            *(gate_text(gate) for gate in circuit["gates"].list_items()),
+            *(gate_line_from_json(gate) for gate in circuit["gates"].list_items()),
             *(f"output {item.wire_name()}" for item in circuit["outputs"].list_items()),
             *(f"spill {item.wire_name()}" for item in circuit["spills"].list_items()), "end"]
 
 
-def layout_lines(layout: Member) -> list[str]:
+def layout_lines_from_json(layout: JsonMember) -> list[str]:
     """Returns the lines of a layout."""
-    def ports(word: str) -> list[str]:
+    def port_lines(word: str) -> list[str]:
         """Returns the lines of ports."""
         return [f"{word} {port['name'].wire_name()} {port['cell'].numbers_text(2)}"
                 for port in layout[f"{word}s"].list_items()]
@@ -185,56 +185,59 @@ def layout_lines(layout: Member) -> list[str]:
     return [f"layout {layout['width'].number_text()} {layout['height'].number_text()} {layout['steps'].number_text()}",
             *(f"mirror {box.numbers_text(4)}" for box in layout["mirrors"].list_items()),
             *(f"ball {cell.numbers_text(2)}" for cell in layout["balls"].list_items()),
-            *ports("in"), *ports("out"), *(f"waste {cell.numbers_text(2)}" for cell in layout["wastes"].list_items()),
+            *port_lines("in"), *port_lines("out"),
+            *(f"waste {cell.numbers_text(2)}" for cell in layout["wastes"].list_items()),
             "end"]
 
 
-def border_text(word: str, line: Member) -> str:
+def border_line_from_json(word: str, line: JsonMember) -> str:
     """Returns an `edge` or `halo` line."""
     time, x, y, signal = line.list_items(4)
-    return f"{word} {time.time_text()} {x.number_text()} {y.number_text()} {signal.signal()}"
+    return f"{word} {time.time_text()} {x.number_text()} {y.number_text()} {signal.signal_text()}"
 
 
-def stop_text(line: Member) -> str:
+def stop_line_from_json(line: JsonMember) -> str:
     """Returns a `stop` line."""
     time, name, x, y = line.list_items(4)
     return f"stop {time.number_text()} {name.wire_name()} {x.number_text()} {y.number_text()}"
 
 
-def module_lines(module: Member) -> list[str]:
+def module_lines_from_json(module: JsonMember) -> list[str]:
     """Returns the lines of a module."""
-    kinds: list[tuple[str, Callable[[Member], str]]] = [("cut", Member.wire_name), ("use", Member.number_text),
-                                                        ("keep", Member.number_text)]
+    kinds: list[tuple[str, Callable[[JsonMember], str]]] = [("cut", JsonMember.wire_name),
+                                                            ("use", JsonMember.number_text),
+                                                            ("keep", JsonMember.number_text)]
     lines = [f"module {module['box'].numbers_text(4)}"]
     for word, value in kinds:
         lines += [f"{word} {value(item)}" for item in module[f"{word}s"].list_items()]
     for word in ("edge", "halo"):
-        lines += [border_text(word, line) for line in module[f"{word}s"].list_items()]
-    return lines + [stop_text(line) for line in module["stops"].list_items()]
+        lines += [border_line_from_json(word, line) for line in module[f"{word}s"].list_items()]
+    return lines + [stop_line_from_json(line) for line in module["stops"].list_items()]
 
 
 def text_from_json(text: str) -> str:
     """Returns the text of a JSON document. A report in it is left out. A member that is wrong is named."""
     try:
-        document = Member(json.loads(text), "")
+        document = JsonMember(json.loads(text), "")
     except (ValueError, RecursionError) as error:
         raise LabError(f"this is no JSON document: {error}") from error
-    if not isinstance(document.value, dict) or document.value.get("format") != FORMAT:
-        raise LabError(f"the JSON document has not the format `{FORMAT}`")
+    if not isinstance(document.value, dict) or document.value.get("format") != BUNDLE_JSON_FORMAT:
+        raise LabError(f"the JSON document has not the format `{BUNDLE_JSON_FORMAT}`")
     lines: list[str] = []
-    if document.has("limits"):
+    if document.has_member("limits"):
         limits = document["limits"]
         if type(limits.value) is not int or limits.value not in (FIRST_LIMITS.number, SECOND_LIMITS.number):
             raise limits.error_for(f"{FIRST_LIMITS.number} or {SECOND_LIMITS.number}")
         lines += SECOND_LIMITS.line_text.splitlines() if limits.value == SECOND_LIMITS.number else []
-    if document.has("circuit"):
-        lines += circuit_lines(document["circuit"])
-    if document.has("layout"):
-        lines += layout_lines(document["layout"])
-    if document.has("assign"):
+    if document.has_member("circuit"):
+        lines += circuit_lines_from_json(document["circuit"])
+    if document.has_member("layout"):
+        lines += layout_lines_from_json(document["layout"])
+    if document.has_member("assign"):
         lines += ["assign", *(f"on {item.wire_name()}" for item in document["assign"]["on"].list_items()), "end"]
-    if document.has("certificate"):
+    if document.has_member("certificate"):
         certificate = document["certificate"]
         lines.append(f"certificate {certificate['version'].number_text()}")
-        lines += [line for module in certificate["modules"].list_items() for line in module_lines(module)] + ["end"]
+        lines += [line for module in certificate["modules"].list_items()
+                  for line in module_lines_from_json(module)] + ["end"]
     return "\n".join(lines) + "\n"

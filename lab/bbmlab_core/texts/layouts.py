@@ -5,7 +5,7 @@ from functools import cached_property, partial
 from typing import Iterable, Iterator, NamedTuple
 
 from .circuits import Circuit
-from .lines import Lines, SectionReader, forms_of, later_kinds, section_text
+from .lines import SectionReader, TextLines, forms_by_keyword, later_kinds, section_text
 
 KIND_ORDER = ["mirror", "ball", "in", "out", "waste"]
 LATER_KINDS = later_kinds(KIND_ORDER)
@@ -23,7 +23,7 @@ def row_order_key(cell: Cell) -> Cell:
     return cell[1], cell[0]
 
 
-def cells_of(x: int, y: int, width: int, height: int) -> Iterator[Cell]:
+def cells_of_rectangle(x: int, y: int, width: int, height: int) -> Iterator[Cell]:
     """Yields the cells of a rectangle, row by row."""
     for v in range(y, y + height):
         for u in range(x, x + width):
@@ -56,7 +56,7 @@ class Box(NamedTuple):
 
     def cells(self) -> Iterator[Cell]:
         """Yields the cells of the box, row by row."""
-        return cells_of(self.x, self.y, self.width, self.height)
+        return cells_of_rectangle(self.x, self.y, self.width, self.height)
 
     def ring(self) -> set[Cell]:
         """Returns the outermost cells of the box."""
@@ -74,10 +74,10 @@ class Box(NamedTuple):
         return f"{self.x} {self.y} {self.width} {self.height}"
 
 
-def tiles_of(x: int, y: int, width: int, height: int) -> Iterator[Cell]:
+def tiles_touching_rectangle(x: int, y: int, width: int, height: int) -> Iterator[Cell]:
     """Yields the tiles that a rectangle touches, by their column and row."""
-    return cells_of(x // TILE_SIDE, y // TILE_SIDE, (x + width - 1) // TILE_SIDE - x // TILE_SIDE + 1,
-                    (y + height - 1) // TILE_SIDE - y // TILE_SIDE + 1)
+    return cells_of_rectangle(x // TILE_SIDE, y // TILE_SIDE, (x + width - 1) // TILE_SIDE - x // TILE_SIDE + 1,
+                              (y + height - 1) // TILE_SIDE - y // TILE_SIDE + 1)
 
 
 class Port(NamedTuple):
@@ -93,7 +93,7 @@ class Port(NamedTuple):
         return self.x, self.y
 
 
-class Part(NamedTuple):
+class LayoutPart(NamedTuple):
     """A line of a layout of any kind: its name if it has one, its rectangle, and its place in the text, or 0."""
 
     kind: str
@@ -111,7 +111,7 @@ class Part(NamedTuple):
 
     def cells(self) -> Iterator[Cell]:
         """Yields the cells of the part, row by row."""
-        return cells_of(self.x, self.y, self.width, self.height)
+        return cells_of_rectangle(self.x, self.y, self.width, self.height)
 
     def __str__(self) -> str:
         """Writes the line."""
@@ -158,18 +158,18 @@ class Layout:
         return section_text([f"layout {self.width} {self.height} {self.steps}", *map(str, self.parts)])
 
     @cached_property
-    def parts(self) -> tuple[Part, ...]:
+    def parts(self) -> tuple[LayoutPart, ...]:
         """The lines of the section between its header and its `end`."""
         rows: list[tuple[str, str | None, int, int, int, int]] = [("mirror", None, *box) for box in self.mirrors]
         rows += [("ball", None, x, y, 1, 1) for x, y in self.balls]
         rows += [("in", name, x, y, 1, 1) for name, x, y in self.ins]
         rows += [("out", name, x, y, 1, 1) for name, x, y in self.outs]
         rows += [("waste", None, x, y, 1, 1) for x, y in self.wastes]
-        return tuple(Part(*row, self.line + place) for place, row in enumerate(rows, 1))
+        return tuple(LayoutPart(*row, self.line + place) for place, row in enumerate(rows, 1))
 
-    def with_parts(self, parts: Iterable[Part]) -> "Layout":
+    def with_parts(self, parts: Iterable[LayoutPart]) -> "Layout":
         """Returns the layout with other parts, those of each kind in the given order."""
-        of_kind: dict[str, list[Part]] = {kind: [] for kind in KIND_ORDER}
+        of_kind: dict[str, list[LayoutPart]] = {kind: [] for kind in KIND_ORDER}
         for part in parts:
             of_kind[part.kind].append(part)
         mirrors = tuple(Box(part.x, part.y, part.width, part.height) for part in of_kind["mirror"])
@@ -182,13 +182,13 @@ class Layout:
         """The numbers of the parts that have cells in each tile."""
         tiles: dict[Cell, list[int]] = {}
         for number, part in enumerate(self.parts):
-            for tile in tiles_of(part.x, part.y, part.width, part.height):
+            for tile in tiles_touching_rectangle(part.x, part.y, part.width, part.height):
                 tiles.setdefault(tile, []).append(number)
         return tiles
 
-    def parts_near(self, box: Box) -> list[Part]:
+    def parts_near(self, box: Box) -> list[LayoutPart]:
         """Returns the parts that may have a cell in a box, in order, without a look at all others."""
-        near = {number for tile in tiles_of(*box) for number in self.part_numbers_by_tile.get(tile, ())}
+        near = {number for tile in tiles_touching_rectangle(*box) for number in self.part_numbers_by_tile.get(tile, ())}
         return [self.parts[number] for number in sorted(near)]
 
     def clipped(self, box: Box) -> "Layout":
@@ -198,10 +198,10 @@ class Layout:
             left, top = max(part.x, box.x), max(part.y, box.y)
             right, bottom = min(part.x + part.width, box.x + box.width), min(part.y + part.height, box.y + box.height)
             if left < right and top < bottom:
-                parts.append(Part(part.kind, part.name, left, top, right - left, bottom - top))
+                parts.append(LayoutPart(part.kind, part.name, left, top, right - left, bottom - top))
         return self.with_parts(parts)
 
-    def of_kind(self, kind: str) -> list[Part]:
+    def of_kind(self, kind: str) -> list[LayoutPart]:
         """Returns the parts of a kind, in order."""
         return [part for part in self.parts if part.kind == kind]
 
@@ -217,7 +217,7 @@ class Layout:
         """Returns the cells of all mirrors."""
         return {cell for box in self.mirrors for cell in box.cells()}
 
-    def part_at(self, cell: Cell, kinds: tuple[str, ...]) -> Part | None:
+    def part_at(self, cell: Cell, kinds: tuple[str, ...]) -> LayoutPart | None:
         """Returns the first part of some kinds that has the cell."""
         return next((part for part in self.parts if part.kind in kinds and part.x <= cell[0] < part.x + part.width
                      and part.y <= cell[1] < part.y + part.height), None)
@@ -228,7 +228,7 @@ class LayoutReader(SectionReader):
 
     name = "layout"
 
-    def __init__(self, lines: Lines, circuit: Circuit | None = None) -> None:
+    def __init__(self, lines: TextLines, circuit: Circuit | None = None) -> None:
         super().__init__(lines)
         self.circuit = circuit
         self.known = {"in": set(circuit.inputs), "out": set(circuit.outputs)} if circuit else {}
@@ -241,7 +241,7 @@ class LayoutReader(SectionReader):
         self.starts: list[int] = []
         self.ends: list[int] = []
 
-    def section(self) -> Layout:
+    def section_so_far(self) -> Layout:
         """Returns the layout, of a text that is refused what came before."""
         return Layout(self.width, self.height, self.steps, tuple(self.mirrors), tuple(self.cells["ball"]),
                       tuple(self.ports["in"]), tuple(self.ports["out"]), tuple(self.cells["waste"]), self.first_line)
@@ -259,26 +259,26 @@ class LayoutReader(SectionReader):
     def read_mirror(self, x: int, y: int, width: int, height: int) -> None:
         """Reads a line `mirror`."""
         box = Box(x, y, width, height)
-        self.take_place("mirror", box)
+        self.check_and_take_part("mirror", box)
         self.mirrors.append(box)
 
-    def read_cell(self, x: int, y: int, kind: str) -> None:
+    def read_ball_or_waste(self, x: int, y: int, kind: str) -> None:
         """Reads a line `ball` or `waste`."""
-        self.take_place(kind, Box(x, y, 1, 1))
+        self.check_and_take_part(kind, Box(x, y, 1, 1))
         self.cells[kind].append((x, y))
 
     def read_port(self, name: str, x: int, y: int, kind: str) -> None:
         """Reads a line `in` or `out`."""
-        self.take_place(kind, Box(x, y, 1, 1), name)
+        self.check_and_take_part(kind, Box(x, y, 1, 1), name)
         self.ports[kind].append(Port(name, x, y))
 
-    def take_place(self, kind: str, box: Box, name: str | None = None) -> None:
+    def check_and_take_part(self, kind: str, box: Box, name: str | None = None) -> None:
         """Refuses a line of any kind but header and end that is out of order, or whose cells it may not take."""
         self.require_kind_order(kind, LATER_KINDS)
         for what, side in (("width", box.width), ("height", box.height)):
             if not 1 <= side <= self.lines.limits.max_side:
                 self.lines.refuse(2, "mirror_side", what=what, number=side, limits=self.lines.limits)
-        self.require_port(kind, name)
+        self.require_port_of_circuit(kind, name)
         if box.x + box.width > self.width or box.y + box.height > self.height:
             self.lines.refuse(7, "cell_outside", kind=kind, box=box, size=(self.width, self.height))
         if kind not in END_ONLY_KINDS:
@@ -286,7 +286,7 @@ class LayoutReader(SectionReader):
         if kind not in START_ONLY_KINDS:
             self.mark_cells_taken(kind, box, self.ends, END_ONLY_KINDS)
 
-    def require_port(self, kind: str, name: str | None) -> None:
+    def require_port_of_circuit(self, kind: str, name: str | None) -> None:
         """Refuses an `in` that is no input and an `out` that is no output of the circuit."""
         if self.circuit is None or name is None or name in self.known[kind]:
             return
@@ -301,7 +301,7 @@ class LayoutReader(SectionReader):
             if rows[y] & mask:
                 taken = rows[y] & mask
                 cell = (taken & -taken).bit_length() - 1, y
-                other = self.section().part_at(cell, ("mirror", *kinds))
+                other = self.section_so_far().part_at(cell, ("mirror", *kinds))
                 assert other is not None
                 self.lines.refuse(7, "cell_taken", kind=kind, cell=cell, other=other.kind, other_name=other.name,
                                   at=other.line)
@@ -318,7 +318,8 @@ class LayoutReader(SectionReader):
             self.lines.refuse(11, "port_without_cell", inputs=no_in, outputs=no_out)
 
     readers = {
-        "layout W H STEPS": read_layout, "mirror X Y W H": read_mirror, "ball X Y": partial(read_cell, kind="ball"),
+        "layout W H STEPS": read_layout, "mirror X Y W H": read_mirror,
+        "ball X Y": partial(read_ball_or_waste, kind="ball"),
         "in NAME X Y": partial(read_port, kind="in"), "out NAME X Y": partial(read_port, kind="out"),
-        "waste X Y": partial(read_cell, kind="waste"), "end": read_end}
-    forms = forms_of(*readers)
+        "waste X Y": partial(read_ball_or_waste, kind="waste"), "end": read_end}
+    forms = forms_by_keyword(*readers)

@@ -5,7 +5,7 @@ from dataclasses import dataclass, field
 from functools import cache, partial
 from typing import Any, Callable, Iterable, NoReturn
 
-from .limits import FIRST_LIMITS, limits_of
+from .limits import FIRST_LIMITS, limits_of_text
 
 NUMBER_PATTERN_TEXT = "(?:0|[1-9][0-9]{0,8})"
 NAME_PATTERN_TEXT = "[a-z][a-z0-9_]{0,31}"
@@ -19,7 +19,7 @@ NAME_PLACEHOLDERS = {"NAME", "A", "B", "C", "D", "E", "F"}
 LineForm = tuple[str, ...]
 # The kinds of line that come later than each kind.
 LaterKinds = dict[str, list[str]]
-Values = list[Any]
+LineValues = list[Any]
 
 
 @dataclass(frozen=True)
@@ -46,7 +46,7 @@ def later_kinds(kinds: Iterable[str]) -> LaterKinds:
     return {kind: listed[index:] for index, kind in enumerate(listed, 1)}
 
 
-def forms_of(*forms: str) -> dict[str, LineForm]:
+def forms_by_keyword(*forms: str) -> dict[str, LineForm]:
     """Returns the forms of a section by their keywords."""
     return {form.split(" ")[0]: tuple(form.split(" ")) for form in forms}
 
@@ -87,18 +87,18 @@ def value_reader(place: str) -> Callable[[str], Any]:
 
 
 @cache
-def form_pattern(form: LineForm) -> tuple[re.Pattern[str], list[Callable[[str], Any]]]:
+def form_pattern_and_readers(form: LineForm) -> tuple[re.Pattern[str], list[Callable[[str], Any]]]:
     """Returns the regular expression of a whole line of a form, and what makes the values of its groups."""
     return re.compile(" ".join(map(value_pattern, form))), [value_reader(place) for place in form if place.isupper()]
 
 
-def match_line(line: str, forms: dict[str, LineForm]) -> tuple[str, Values] | None:
+def match_line(line: str, forms: dict[str, LineForm]) -> tuple[str, LineValues] | None:
     """Returns the keyword of a line and the values of its placeholders, or None where no form fits."""
     keyword = line.partition(" ")[0]
     form = forms.get(keyword)
     if form is None:
         return None
-    pattern, readers = form_pattern(form)
+    pattern, readers = form_pattern_and_readers(form)
     found = pattern.fullmatch(line)
     return (keyword, [reader(word) for reader, word in zip(readers, found.groups())]) if found else None
 
@@ -108,12 +108,12 @@ def section_text(lines: Iterable[str]) -> str:
     return "".join(f"{line}\n" for line in [*lines, "end"])
 
 
-class Lines:
+class TextLines:
     """The lines of a text, taken one by one and counted from 1. A first line `limits 2` is taken already."""
 
     def __init__(self, text: str) -> None:
         self.parts = text.split("\n")
-        self.limits = limits_of(text)
+        self.limits = limits_of_text(text)
         self.taken = 0 if self.limits is FIRST_LIMITS else 1
 
     def refuse(self, code: int, cause: str, **facts: Any) -> NoReturn:
@@ -129,7 +129,7 @@ class Lines:
         self.taken += 1
         return self.parts[self.taken - 1]
 
-    def require_end(self, section: str) -> None:
+    def require_end_of_text(self, section: str) -> None:
         """Refuses a text that goes on after its last section."""
         if self.parts[self.taken:] != [""]:
             rest = self.parts[self.taken]
@@ -147,13 +147,13 @@ class SectionReader:
     readers: dict[str, Callable[..., None]] = {}
     forms: dict[str, LineForm] = {}
 
-    def __init__(self, lines: Lines) -> None:
+    def __init__(self, lines: TextLines) -> None:
         self.lines = lines
         self.first_line = lines.taken + 1
         self.last_line = 0
         self.kind_lines: dict[str, int] = {}
 
-    def forms_now(self) -> dict[str, LineForm]:
+    def current_forms(self) -> dict[str, LineForm]:
         """Returns the forms that the section has at this line."""
         return self.forms
 
@@ -161,9 +161,9 @@ class SectionReader:
         """Reads up to the line `end`, or raises `Refused`."""
         keyword, readers = "", {form.partition(" ")[0]: partial(reader, self) for form, reader in self.readers.items()}
         while keyword != "end":
-            found = match_line(self.lines.take_line(self.name), self.forms_now())
+            found = match_line(self.lines.take_line(self.name), self.current_forms())
             if found is None:
-                self.lines.refuse(1, "shape", section=self.name, begun=bool(keyword), forms=self.forms_now())
+                self.lines.refuse(1, "shape", section=self.name, begun=bool(keyword), forms=self.current_forms())
             is_header = found[0] == self.name
             if is_header and keyword:
                 self.lines.refuse(6, "second_header", section=self.name, first=self.first_line)
@@ -174,7 +174,7 @@ class SectionReader:
             self.kind_lines[keyword] = self.lines.taken
         self.last_line = self.lines.taken
 
-    def read_nothing(self) -> None:
+    def read_line_without_values(self) -> None:
         """Reads a line without values, behind which nothing is left to do."""
 
     def require_kind_order(self, keyword: str, order: LaterKinds) -> None:

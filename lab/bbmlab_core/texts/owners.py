@@ -8,7 +8,7 @@ from .layouts import Box, Cell
 NOBODY = -1
 
 
-class Owners:
+class BlockOwners:
     """The number of the module that owns each block, row by row, and NOBODY for a block in no box."""
 
     def __init__(self, width: int, height: int) -> None:
@@ -22,17 +22,17 @@ class Owners:
         for row in range(max(0, box.y // 2), min(self.rows, (box.y + box.height + 1) // 2)):
             yield row * self.columns + first, row * self.columns + last
 
-    def cell_of(self, place: int) -> Cell:
+    def upper_left_cell_of_block(self, place: int) -> Cell:
         """Returns the upper left cell of a block."""
         return place % self.columns * 2, place // self.columns * 2
 
-    def first_owned_block(self, box: Box) -> tuple[Cell, int]:
+    def first_owned_block_and_owner(self, box: Box) -> tuple[Cell, int]:
         """Returns the first block of a box that a module owns, and that module's number. There is one."""
         place = next(place for start, end in self.block_spans(box) for place in range(start, end)
                      if self.numbers[place] != NOBODY)
-        return self.cell_of(place), self.numbers[place]
+        return self.upper_left_cell_of_block(place), self.numbers[place]
 
-    def give_blocks(self, box: Box, number: int) -> bool:
+    def give_blocks_if_free(self, box: Box, number: int) -> bool:
         """Gives the blocks of a box to a module; returns whether nobody owned one of them, without which nothing
         changes."""
         numbers, columns, count = self.numbers, box.width // 2, box.height // 2
@@ -82,5 +82,5 @@ class Owners:
             for row in range(height):
                 start = place + row * self.columns
                 numbers[start:start + width] = array("i", [0]) * width
-            gaps.append(Box(*self.cell_of(place), 2 * width, 2 * height))
+            gaps.append(Box(*self.upper_left_cell_of_block(place), 2 * width, 2 * height))
         return gaps

@@ -7,7 +7,7 @@ from dataclasses import dataclass, field
 from string import Formatter
 from typing import Any, Callable, NamedTuple, Sequence
 
-from .certificates import certificate_line_text
+from .certificates import border_or_stop_text
 from .documents import Document
 from .limits import limits_line_hint
 from .lines import Refusal
@@ -41,7 +41,7 @@ class ExplainedRefusal:
     lines: list[int] = field(default_factory=list)
 
 
-Facts = dict[str, Any]
+RefusalFacts = dict[str, Any]
 
 
 def names_words(names: Sequence[str], most: int = 8) -> str:
@@ -56,7 +56,7 @@ def similar_names_hint(name: str, known: list[str]) -> str:
     return f" Did you mean {' or '.join(f'`{other}`' for other in alike)}?" if alike else ""
 
 
-def earlier_line_words(facts: Facts) -> str:
+def earlier_line_words(facts: RefusalFacts) -> str:
     """Returns the line of what comes before, where it is not the refused line itself."""
     return "on this line" if facts["at"] == facts["here"] else f"line {facts['at']}"
 
@@ -81,7 +81,7 @@ def corner_words(x: int, y: int, width: int, height: int) -> str:
     return f"({x}, {y})" if width == height == 1 else f"({x}, {y}) to ({x + width - 1}, {y + height - 1})"
 
 
-class Sentences(NamedTuple):
+class CauseSentences(NamedTuple):
     """What is wrong, and a hint, as format strings over the facts of a cause.
 
     `names_field` and `lines_field` say where the facts have the names and lines that are meant. The hint goes on with
@@ -95,103 +95,104 @@ class Sentences(NamedTuple):
     beyond_limits: str = ""
 
 
-SENTENCES = {
-    "line_not_ended": Sentences("The last line, `{rest:.60}`, does not end with a line feed.",
-                                "Add a line feed at the end of the file. `bbmlab fmt` does."),
-    "text_goes_on": Sentences("The text goes on after the {section} section, which is the last: {rest_words}.",
-                              "Remove what comes after the last `end`, or use the command that reads these sections."),
-    "first_not_header": Sentences(
+SENTENCES_BY_CAUSE = {
+    "line_not_ended": CauseSentences("The last line, `{rest:.60}`, does not end with a line feed.",
+                                     "Add a line feed at the end of the file. `bbmlab fmt` does."),
+    "text_goes_on": CauseSentences(
+        "The text goes on after the {section} section, which is the last: {rest_words}.",
+        "Remove what comes after the last `end`, or use the command that reads these sections."),
+    "first_not_header": CauseSentences(
         "The {section} section begins here with a line `{keyword}` and not with its header.",
         "Write the header `{header}` first."),
-    "kind_after_later_kind": Sentences(
+    "kind_after_later_kind": CauseSentences(
         "This {kind_words} line comes after the {later_words} line {at}; it belongs before all {later_words} lines.",
         "Move the line up. `bbmlab fmt` sorts the kinds.", lines_field="at"),
-    "no_module": Sentences(
+    "no_module": CauseSentences(
         "The certificate has no module.",
         "Add modules that cover the rectangle of {size[0]} by {size[1]} cells, such as `module 0 0 {largest_sides}`."),
-    "second_header": Sentences("The {section} section has a second header; the first is line {first}.",
-                               "Remove this header, or write `end` before it.", lines_field="first"),
-    "before_first_module": Sentences(
+    "second_header": CauseSentences("The {section} section has a second header; the first is line {first}.",
+                                    "Remove this header, or write `end` before it.", lines_field="first"),
+    "before_first_module": CauseSentences(
         "This `{kind}` line comes before the first `module` line, so it belongs to no module.",
         "Write a line `module X Y W H` before it."),
-    "layout_steps": Sentences("The layout runs {number} steps; {limits.max_steps} is the most.", "Take fewer steps.",
-                              beyond_limits="A layout of more than {limits.max_steps} steps"),
-    "delay_limit": Sentences("The delay has {number} steps; it has 1 to 4096.",
-                             "Take a number from 1 to 4096, or several delays in a row."),
-    "wire_count": Sentences("With this line the circuit has more than {limits.max_wires} wires.",
-                            "Split the design into smaller circuits.",
-                            beyond_limits="A circuit of more than {limits.max_wires} wires"),
-    "gate_count": Sentences("With this line the circuit has more than {limits.max_gates} gates, sources among them.",
-                            "Split the design into smaller circuits.",
-                            beyond_limits="A circuit of more than {limits.max_gates} gates"),
-    "box_side": Sentences("The {what} of the box is {number}, which is {why_no_side}.",
-                          "Take an even {what} from 2 to 64."),
-    "certificate_version": Sentences("There is no certificate version {number}.",
-                                     "Write `certificate 2`, or `certificate 1` with `halo` lines."),
-    "module_count": Sentences(
+    "layout_steps": CauseSentences("The layout runs {number} steps; {limits.max_steps} is the most.",
+                                   "Take fewer steps.", beyond_limits="A layout of more than {limits.max_steps} steps"),
+    "delay_limit": CauseSentences("The delay has {number} steps; it has 1 to 4096.",
+                                  "Take a number from 1 to 4096, or several delays in a row."),
+    "wire_count": CauseSentences("With this line the circuit has more than {limits.max_wires} wires.",
+                                 "Split the design into smaller circuits.",
+                                 beyond_limits="A circuit of more than {limits.max_wires} wires"),
+    "gate_count": CauseSentences(
+        "With this line the circuit has more than {limits.max_gates} gates, sources among them.",
+        "Split the design into smaller circuits.", beyond_limits="A circuit of more than {limits.max_gates} gates"),
+    "box_side": CauseSentences("The {what} of the box is {number}, which is {why_no_side}.",
+                               "Take an even {what} from 2 to 64."),
+    "certificate_version": CauseSentences("There is no certificate version {number}.",
+                                          "Write `certificate 2`, or `certificate 1` with `halo` lines."),
+    "module_count": CauseSentences(
         "This is module {limits.max_modules} from 0; a certificate has at most {limits.max_modules} modules.",
         "Take larger boxes.", beyond_limits="A certificate of more than {limits.max_modules} modules"),
-    "cut_count": Sentences("Module {module} has 12 `cut` lines already; `{name}` would be the thirteenth.",
-                           "Use gates in place of cutting their outputs, or take a smaller box."),
-    "use_count": Sentences("Module {module} has 64 `use` lines already.",
-                           "Cut a wire in place of using the gates before it, or take a smaller box."),
-    "border_count": Sentences("Module {module} has 65536 `edge`, `halo` and `stop` lines already.",
-                              "Take a smaller box, or a border that fewer balls cross."),
-    "wire_not_defined": Sentences(
+    "cut_count": CauseSentences("Module {module} has 12 `cut` lines already; `{name}` would be the thirteenth.",
+                                "Use gates in place of cutting their outputs, or take a smaller box."),
+    "use_count": CauseSentences("Module {module} has 64 `use` lines already.",
+                                "Cut a wire in place of using the gates before it, or take a smaller box."),
+    "border_count": CauseSentences("Module {module} has 65536 `edge`, `halo` and `stop` lines already.",
+                                   "Take a smaller box, or a border that fewer balls cross."),
+    "wire_not_defined": CauseSentences(
         "The wire `{name}` is not defined before this line.{near}",
         "Define `{name}` first, by an `input` or behind the arrow of an earlier gate. A circuit has no loops.",
         names_field="name"),
-    "wire_unknown": Sentences("The circuit has no wire `{name}`.{near}", "Write the name as the circuit has it.",
-                              names_field="name"),
-    "gate_unknown": Sentences(
+    "wire_unknown": CauseSentences("The circuit has no wire `{name}`.{near}", "Write the name as the circuit has it.",
+                                   names_field="name"),
+    "gate_unknown": CauseSentences(
         "There is no gate {number}: the circuit has {gate_numbers}.",
         "Count gate lines from 0, `source` lines among them, in the order of their lines.", "number"),
-    "keep_not_inverse": Sentences(
+    "keep_not_inverse": CauseSentences(
         "Gate {number} is `{gate.kind}` (line {gate.line}), which is no inverse gate. {inverse_gates}",
         "Remove the line, or give the number of an `unswitch` or `uninteract`.", "number", "gate.line"),
-    "on_unknown": Sentences("`{name}` can't be turned on: {why_not_on}.{near}", "{names_to_turn_on}", "name"),
-    "on_twice": Sentences("`{name}` is on already (line {at}).", "Remove one of the two lines.", "name", "at"),
-    "gate_not_rising": Sentences(
+    "on_unknown": CauseSentences("`{name}` can't be turned on: {why_not_on}.{near}", "{names_to_turn_on}", "name"),
+    "on_twice": CauseSentences("`{name}` is on already (line {at}).", "Remove one of the two lines.", "name", "at"),
+    "gate_not_rising": CauseSentences(
         "`{kind} {number}` has {same_or_lower} `{kind} {last}` on line {at}; the gate numbers of a module rise.",
         "{sort_or_remove}", lines_field="at"),
-    "port_unknown": Sentences("`{name}` is no {side} of the circuit.{near_port}", "{names_of_side}", "name"),
-    "wire_defined": Sentences("The wire `{name}` is defined already ({earlier}).",
-                              "Give one of the two another name.", "name", "at"),
-    "wire_consumed": Sentences(
+    "port_unknown": CauseSentences("`{name}` is no {side} of the circuit.{near_port}", "{names_of_side}", "name"),
+    "wire_defined": CauseSentences("The wire `{name}` is defined already ({earlier}).",
+                                   "Give one of the two another name.", "name", "at"),
+    "wire_consumed": CauseSentences(
         "The wire `{name}` is consumed already ({earlier}): no wire branches.",
         "To use a wire twice, copy it: the standard cell `fan_out` does, by a `switch` and a `source` (`bbmlab cells "
         "fan_out`).", "name", "at"),
-    "cut_twice": Sentences("Module {module} cuts `{name}` already (line {at}).", "Remove one of the two lines.",
-                           "name", "at"),
-    "use_output_local": Sentences(
+    "cut_twice": CauseSentences("Module {module} cuts `{name}` already (line {at}).", "Remove one of the two lines.",
+                                "name", "at"),
+    "use_output_local": CauseSentences(
         "Gate {gate.number} (`{gate.kind}`, line {gate.line}) makes {listed}, which module {module} cuts already "
         "(line {at[0]}).", "Remove `cut {names[0]}`: a wire is cut, or made by a used gate, and not both.",
         "names", "at"),
-    "cell_outside": Sentences(
+    "cell_outside": CauseSentences(
         "The `{kind}` lies at {corners}, outside the rectangle of {size[0]} by {size[1]} cells, from (0, 0) to "
         "{last_cell}.", "Move it, or make the layout larger."),
-    "cell_taken": Sentences("The cell ({cell[0]}, {cell[1]}) is taken by {other_part} already (line {at}).",
-                            "Move one of the two, or remove it. An `in` and an `out` may share a cell.",
-                            lines_field="at"),
-    "box_odd": Sentences("The corner of the box is odd: {odd_sides}.", "Move the box so that X and Y are even."),
-    "box_outside": Sentences(
+    "cell_taken": CauseSentences("The cell ({cell[0]}, {cell[1]}) is taken by {other_part} already (line {at}).",
+                                 "Move one of the two, or remove it. An `in` and an `out` may share a cell.",
+                                 lines_field="at"),
+    "box_odd": CauseSentences("The corner of the box is odd: {odd_sides}.", "Move the box so that X and Y are even."),
+    "box_outside": CauseSentences(
         "The box ({box_words}) is not inside the rectangle of {size[0]} by {size[1]} cells.",
         "Make the box smaller, or move it."),
-    "box_overlap": Sentences(
+    "box_overlap": CauseSentences(
         "The box ({box_words}) overlaps that of module {other} ({other_box_words}, line {at}): the cell ({cell[0]}, "
         "{cell[1]}) is in both.", "Move one of the boxes, or make it smaller.", lines_field="at"),
-    "use_input_not_local": Sentences(
+    "use_input_not_local": CauseSentences(
         "Gate {gate.number} (`{gate.kind}`, line {gate.line}) uses {listed}, which {is_or_are} not local in module "
         "{module}.", "Add `cut {names[0]}`, or `use` the gate that makes `{names[0]}`, before this line.",
         "names", "gate.line"),
-    "wire_not_local": Sentences("The wire `{name}` is not local in module {module}. {local_words}", "{make_local}",
-                                "name"),
-    "keep_not_used": Sentences(
+    "wire_not_local": CauseSentences("The wire `{name}` is not local in module {module}. {local_words}", "{make_local}",
+                                     "name"),
+    "keep_not_used": CauseSentences(
         "Module {module} keeps gate {gate.number} (`{gate.kind}`, line {gate.line}) and does not use it.",
         "Add `use {gate.number}` before it, with the wires {wires_of_gate} local.", "gate.number", "gate.line"),
 }
 # What the sentences say of the facts in other words.
-DERIVED_FACTS: dict[str, Callable[[Facts], str]] = {
+DERIVED_FACTS: dict[str, Callable[[RefusalFacts], str]] = {
     "near": lambda facts: similar_names_hint(facts["name"], facts["known"]),
     "earlier": lambda facts: earlier_line_words(facts),
     "listed": lambda facts: names_words(facts["names"]), "box_words": lambda facts: box_words(facts["box"]),
@@ -232,7 +233,7 @@ DERIVED_FACTS: dict[str, Callable[[Facts], str]] = {
 }
 
 
-class FactWords(dict[str, Any]):
+class FactsWithDerived(dict[str, Any]):
     """The facts of a cause, and what is derived of them, by name."""
 
     def __missing__(self, name: str) -> str:
@@ -240,9 +241,9 @@ class FactWords(dict[str, Any]):
         return DERIVED_FACTS[name](self)
 
 
-def explained_by_sentences(sentences: Sentences, facts: Facts) -> ExplainedRefusal:
+def explain_by_sentences(sentences: CauseSentences, facts: RefusalFacts) -> ExplainedRefusal:
     """Returns a refusal in the sentences of its cause."""
-    words = FactWords(facts)
+    words = FactsWithDerived(facts)
     named, lines = (value if isinstance(value, list) else [value]
                     for value in (Formatter().get_field(place, (), words)[0] if place else []
                                   for place in (sentences.names_field, sentences.lines_field)))
@@ -255,7 +256,7 @@ def explained_by_sentences(sentences: Sentences, facts: Facts) -> ExplainedRefus
 
 # ---- code 12
 
-def explain_text_ended(facts: Facts) -> ExplainedRefusal:
+def explain_text_ended(facts: RefusalFacts) -> ExplainedRefusal:
     """Explains a text that ends before its last section does."""
     section = facts["section"]
     return ExplainedRefusal([f"The text ends before the {section} section is complete: no line is left."],
@@ -265,7 +266,7 @@ def explain_text_ended(facts: Facts) -> ExplainedRefusal:
 
 # ---- code 6
 
-def explain_border_not_rising(facts: Facts) -> ExplainedRefusal:
+def explain_border_not_rising(facts: RefusalFacts) -> ExplainedRefusal:
     """Explains an `edge`, `halo` or `stop` line that is out of order."""
     kind, new, last = facts["kind"], facts["new"], facts["last"]
     if new.order_key == last.order_key:
@@ -276,14 +277,14 @@ def explain_border_not_rising(facts: Facts) -> ExplainedRefusal:
     else:
         part = next(name for name, a, b in zip(("time", "y", "x"), new.order_key, last.order_key) if a != b)
         what, hint = f"has a smaller {part} than", "Sort by time, then y, then x. `bbmlab fmt` does."
-    return ExplainedRefusal([f"`{certificate_line_text(kind, new)}` {what} the line before it in the list, "
-                             f"`{certificate_line_text(kind, last)}` (line {facts['at']})."], [hint],
+    return ExplainedRefusal([f"`{border_or_stop_text(kind, new)}` {what} the line before it in the list, "
+                             f"`{border_or_stop_text(kind, last)}` (line {facts['at']})."], [hint],
                             lines=[facts["at"]])
 
 
 # ---- code 11
 
-def explain_wire_not_consumed(facts: Facts) -> ExplainedRefusal:
+def explain_wire_not_consumed(facts: RefusalFacts) -> ExplainedRefusal:
     """Explains wires that nothing consumes at the end of a circuit."""
     names = facts["names"]
     lines = [facts["defined"][name] for name in names]
@@ -294,7 +295,7 @@ def explain_wire_not_consumed(facts: Facts) -> ExplainedRefusal:
                             names=names, lines=lines)
 
 
-def explain_port_without_cell(facts: Facts) -> ExplainedRefusal:
+def explain_port_without_cell(facts: RefusalFacts) -> ExplainedRefusal:
     """Explains inputs or outputs without a cell at the end of a layout."""
     what, hints = [], []
     for kind, side in (("in", "inputs"), ("out", "outputs")):
@@ -306,7 +307,7 @@ def explain_port_without_cell(facts: Facts) -> ExplainedRefusal:
     return ExplainedRefusal(what, hints, names=facts["inputs"] + facts["outputs"])
 
 
-def explain_port_not_local(facts: Facts) -> ExplainedRefusal:
+def explain_port_not_local(facts: RefusalFacts) -> ExplainedRefusal:
     """Explains a port in a box whose wire the module does not know."""
     what = [f"Module {facts['module']} (line {facts['at']}) has the cell of `{port.kind} {port.name} {port.x} "
             f"{port.y}` (line {port.line}) "
@@ -328,7 +329,7 @@ def nonlocal_wire_hint(name: str, gate: Any) -> str:
             f"Or add `cut {name}` if the module lies away from that gate.")
 
 
-def explain_gap(facts: Facts) -> ExplainedRefusal:
+def explain_gap(facts: RefusalFacts) -> ExplainedRefusal:
     """Explains cells that are in no box."""
     gaps = facts["gaps"]
     shown = "; ".join(box_words(gap) for gap in gaps[:4]) + (f"; and {len(gaps) - 4} more" if len(gaps) > 4 else "")
@@ -339,11 +340,11 @@ def explain_gap(facts: Facts) -> ExplainedRefusal:
                              f"{min(gaps[0].width, 64)} {min(gaps[0].height, 64)}`, or make a neighbour larger."])
 
 
-def explain_heard_not_local(facts: Facts) -> ExplainedRefusal:
+def explain_heard_not_local(facts: RefusalFacts) -> ExplainedRefusal:
     """Explains an edge line beside a module that does not know its wire."""
     missing = facts["missing"]
     what = [f"Module {module} does not know the wire `{line.signal}`: line {at} "
-            f"(`{certificate_line_text('edge', line)}`, of module {other}) speaks of a cell beside its box."
+            f"(`{border_or_stop_text('edge', line)}`, of module {other}) speaks of a cell beside its box."
             for module, line, other, at in missing[:4]]
     more = [f"There are {len(missing) - 4} more lines of that kind."] if len(missing) > 4 else []
     hints = [f"Add `cut {line.signal}` to module {module}, or `use` the gate that makes it."
@@ -355,7 +356,7 @@ def explain_heard_not_local(facts: Facts) -> ExplainedRefusal:
 
 # ---- code 2
 
-def explain_layout_side(facts: Facts) -> ExplainedRefusal:
+def explain_layout_side(facts: RefusalFacts) -> ExplainedRefusal:
     """Explains a side of a layout that is odd or outside its limits."""
     number, limits = facts["number"], facts["limits"]
     most = limits.max_side
@@ -367,7 +368,7 @@ def explain_layout_side(facts: Facts) -> ExplainedRefusal:
                              + (limits_line_hint(f"A layout {size} than {most}", limits) if number > most else "")])
 
 
-def explain_mirror_side(facts: Facts) -> ExplainedRefusal:
+def explain_mirror_side(facts: RefusalFacts) -> ExplainedRefusal:
     """Explains a side of a mirror outside its limits."""
     most = facts["limits"].max_side
     more = limits_line_hint(f"A side of more than {most}", facts["limits"]) if facts["number"] > most else ""
@@ -383,7 +384,7 @@ def even_time_hint(time: int, steps: int) -> str:
     return f"Take the odd time at which the cell is live: {' or '.join(times)}." if times else "Remove the line."
 
 
-def place_fault_and_hint(fault: str, facts: Facts) -> tuple[str, str]:
+def place_fault_and_hint(fault: str, facts: RefusalFacts) -> tuple[str, str]:
     """Returns what is wrong with a time or a cell, and a hint."""
     new, box, steps = facts["new"], facts["box"], facts["steps"]
     cell, last = f"({new.x}, {new.y})", steps - 1 if steps % 2 == 0 else steps - 2
@@ -413,7 +414,7 @@ def place_fault_and_hint(fault: str, facts: Facts) -> tuple[str, str]:
     }[fault]
 
 
-def explain_border_place(facts: Facts) -> ExplainedRefusal:
+def explain_border_place(facts: RefusalFacts) -> ExplainedRefusal:
     """Explains a time or a cell at which no line may be."""
     told = [place_fault_and_hint(fault, facts) for fault in facts["faults"]]
     star = [facts["star"]] if facts["star"] else []
@@ -421,7 +422,7 @@ def explain_border_place(facts: Facts) -> ExplainedRefusal:
 
 
 # The causes that more than their facts decide.
-EXPLAINERS: dict[str, Callable[[Facts], ExplainedRefusal]] = {
+REFUSAL_EXPLAINERS: dict[str, Callable[[RefusalFacts], ExplainedRefusal]] = {
     "text_ended": explain_text_ended, "border_not_rising": explain_border_not_rising,
     "wire_not_consumed": explain_wire_not_consumed, "port_without_cell": explain_port_without_cell,
     "port_not_local": explain_port_not_local, "gap": explain_gap, "heard_not_local": explain_heard_not_local,
@@ -436,8 +437,8 @@ def explain_refusal(document: Document, refusal: Refusal) -> ExplainedRefusal:
         explained = ExplainedRefusal([what for what, _ in hints], list(dict.fromkeys(hint for _, hint in hints)))
     else:
         facts = {"here": refusal.line, **refusal.facts}
-        sentences = SENTENCES.get(refusal.cause)
-        explained = explained_by_sentences(sentences, facts) if sentences else EXPLAINERS[refusal.cause](facts)
+        sentences = SENTENCES_BY_CAUSE.get(refusal.cause)
+        explained = explain_by_sentences(sentences, facts) if sentences else REFUSAL_EXPLAINERS[refusal.cause](facts)
     explained.rule = CODE_RULES[refusal.code]
     return explained
 

@@ -3,7 +3,7 @@
 import re
 from dataclasses import dataclass, field
 
-LINE_FORMS = {
+REPORT_LINE_FORMS = {
     "local": r"local (?P<module>\d+) (?P<kind>edge|stop|end) (?P<time>\d+) (?P<x>\d+) (?P<y>\d+) (?P<assignment>\d+)",
     "keep": r"keep (?P<module>\d+) (?P<gate>\d+) (?P<assignment>\d+)",
     "border": r"border (?P<module>\d+) (?P<time>\d+) (?P<x>\d+) (?P<y>\d+)",
@@ -13,7 +13,7 @@ LINE_FORMS = {
 }
 # What the program's `run` prints.
 RUN_ANSWER_PATTERN = re.compile(r"cells [0-9]{1,9}\n([0-9]{1,9} [0-9]{1,9}\n)*|left [0-9]{1,9}\n")
-LINE_PATTERNS = {word: re.compile(form + r"\Z") for word, form in LINE_FORMS.items()}
+REPORT_LINE_PATTERNS = {word: re.compile(form + r"\Z") for word, form in REPORT_LINE_FORMS.items()}
 
 
 @dataclass(frozen=True)
@@ -24,12 +24,12 @@ class ReportLine:
     values: dict[str, int | str]
     text: str
 
-    def number(self, name: str) -> int:
+    def number_value(self, name: str) -> int:
         """Returns a number of the line."""
         return int(self.values[name])
 
     @property
-    def is_against(self) -> bool:
+    def is_reason_for_no(self) -> bool:
         """Whether the line is a reason for the verdict `no`."""
         if self.word == "delay":
             return self.values["found"] != self.values["wanted"]
@@ -49,7 +49,7 @@ class ReportOrRefusal:
     @property
     def faults(self) -> list[ReportLine]:
         """The lines that are reasons for a no."""
-        return [finding for finding in self.findings if finding.is_against]
+        return [finding for finding in self.findings if finding.is_reason_for_no]
 
 
 class ReportError(Exception):
@@ -58,7 +58,7 @@ class ReportError(Exception):
 
 def parse_finding(line: str) -> ReportLine:
     """Returns a line of a report behind the verdict."""
-    pattern = LINE_PATTERNS.get(line.split(" ")[0])
+    pattern = REPORT_LINE_PATTERNS.get(line.split(" ")[0])
     found = pattern.match(line) if pattern else None
     if not found:
         raise ReportError(f"no line of a report: {line!r}")

@@ -6,7 +6,7 @@ from .certificates import Certificate
 from .circuits import Circuit
 from .documents import Document
 from .layouts import Layout
-from .limits import FIRST_LIMITS, SECOND_LIMITS, limits_for
+from .limits import FIRST_LIMITS, SECOND_LIMITS, smallest_fitting_limits
 from .lines import section_text
 
 
@@ -31,15 +31,15 @@ class Bundle:
                                if section is not None)
 
 
-def text_of_section(section: Circuit | Layout) -> str:
+def section_text_with_limits(section: Circuit | Layout) -> str:
     """Returns the text of a circuit or a layout alone, after the line that raises its limits if one asks for it."""
     if isinstance(section, Layout):
-        limits = limits_for(max(section.width, section.height), section.steps)
+        limits = smallest_fitting_limits(max(section.width, section.height), section.steps)
     else:
-        limits = limits_for(gates=len(section.gates), wires=len(section.wires))
+        limits = smallest_fitting_limits(gates=len(section.gates), wires=len(section.wires))
     return limits.line_text + str(section)
 
 
-def bundle_of(document: Document) -> Bundle:
+def bundle_of_document(document: Document) -> Bundle:
     """Returns the sections of a text that was read."""
     return Bundle(document.circuit, document.layout, document.certificate, document.on, document.limits.number)

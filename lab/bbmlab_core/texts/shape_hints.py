@@ -8,10 +8,10 @@ from .certificates import CertificateReader
 from .circuits import CircuitReader
 from .gates import GATE_SIZES
 from .layouts import LayoutReader
-from .limits import LIMITS_LINE
+from .limits import LIMITS_2_LINE
 from .lines import LineForm, NAME_PATTERN, NUMBER_PATTERN, SectionReader, word_value
 
-Hint = tuple[str, str]
+FaultAndHint = tuple[str, str]
 SECTION_READERS: tuple[type[SectionReader], ...] = (CircuitReader, LayoutReader, AssignReader, CertificateReader)
 SECTION_KEYWORDS = {reader.name: [word for word in reader.forms if word not in (reader.name, "end")]
                     for reader in SECTION_READERS}
@@ -33,9 +33,9 @@ LOGIC_GATE_HINTS |= {"inv": LOGIC_GATE_HINTS["not"], "fanout": LOGIC_GATE_HINTS[
                      "fan_out": LOGIC_GATE_HINTS["copy"]}
 
 
-def character_hints(line: str) -> list[Hint]:
+def character_hints(line: str) -> list[FaultAndHint]:
     """Returns what is wrong with the bytes of a line."""
-    hints: list[Hint] = []
+    hints: list[FaultAndHint] = []
     if line.startswith("\xef\xbb\xbf"):
         hints.append(("The text begins with a byte order mark (BOM), three bytes that editors hide.",
                       f"Save without a BOM. {FMT_FIXES_THIS}"))
@@ -65,7 +65,7 @@ def character_hints(line: str) -> list[Hint]:
     return hints
 
 
-def word_mismatch(word: str, place: str) -> str | None:
+def word_mismatch_words(word: str, place: str) -> str | None:
     """Returns why a word does not fit its place in a form, or None where it does."""
     try:
         word_value(word, place)
@@ -79,11 +79,11 @@ def word_mismatch(word: str, place: str) -> str | None:
     if place == "SIGNAL" and word == "0":
         return "There is no signal `0`: a cell without a line is dead."
     if place in ("SIGNAL", "NAME") or len(place) == 1 and place in "ABCDEF":
-        return name_mismatch(word)
-    return number_mismatch(word, place)
+        return name_mismatch_words(word)
+    return number_mismatch_words(word, place)
 
 
-def name_mismatch(word: str) -> str:
+def name_mismatch_words(word: str) -> str:
     """Returns why a word is no name."""
     if NUMBER_PATTERN.match(word):
         return f"`{word}` is a number, and a name stands here. A name begins with a small letter."
@@ -94,7 +94,7 @@ def name_mismatch(word: str) -> str:
     return f"`{word}` is no name: a small letter first, then small letters, digits and underscores."
 
 
-def number_mismatch(word: str, place: str) -> str:
+def number_mismatch_words(word: str, place: str) -> str:
     """Returns why a word is no number."""
     what = {"T": "time", "TIME": "time", "STEPS": "number of steps", "GATE": "gate number"}.get(place, "number")
     if re.fullmatch(r"0\d+", word):
@@ -112,7 +112,7 @@ def number_mismatch(word: str, place: str) -> str:
     return f"`{word}` is no {what}; a number is `0` or digits without leading zeros."
 
 
-def form_hint(words: list[str], form: LineForm, section: str) -> Hint:
+def form_hint(words: list[str], form: LineForm, section: str) -> FaultAndHint:
     """Returns how a line with a known keyword differs from its form."""
     shown = " ".join(form)
     if len(words) != len(form):
@@ -122,13 +122,13 @@ def form_hint(words: list[str], form: LineForm, section: str) -> Hint:
             text = f"The arrow `->` is missing in this `{form[0]}` line."
         return text, f"Write it as `{shown}`."
     for word, place in zip(words[1:], form[1:]):
-        hint = word_mismatch(word, place)
+        hint = word_mismatch_words(word, place)
         if hint:
             return hint, f"Write it as `{shown}`."
     return f"The line is no `{form[0]}` line of the {section} section.", f"Write it as `{shown}`."
 
 
-def logic_hint(word: str) -> Hint | None:
+def logic_gate_hint(word: str) -> FaultAndHint | None:
     """Returns how a gate of ordinary logic is made of those of conservative logic, or None if a word names no such
     gate."""
     if word not in LOGIC_GATE_HINTS:
@@ -139,15 +139,15 @@ def logic_hint(word: str) -> Hint | None:
             "`bbmlab route` takes them too.")
 
 
-def keyword_hint(word: str, section: str, begun: bool, forms: dict[str, LineForm]) -> Hint:
+def keyword_hint(word: str, section: str, begun: bool, forms: dict[str, LineForm]) -> FaultAndHint:
     """Returns what is wrong with a first word that the section does not have."""
     if word == "limits":
-        return (f"The only line that begins with `limits` is `{LIMITS_LINE}`, and it is the first line of a text.",
-                f"Remove the line, or write `{LIMITS_LINE}` before all sections.")
+        return (f"The only line that begins with `limits` is `{LIMITS_2_LINE}`, and it is the first line of a text.",
+                f"Remove the line, or write `{LIMITS_2_LINE}` before all sections.")
     if word == "halo" and section == "certificate":
         return ("`halo` lines belong to `certificate 1`; in version 2 there are none.",
                 "Remove the `halo` lines, or write `certificate 1` in the header.")
-    logic = logic_hint(word.lower()) if section == "circuit" else None
+    logic = logic_gate_hint(word.lower()) if section == "circuit" else None
     if logic:
         return logic
     other = next((name for name, words in SECTION_KEYWORDS.items() if word in words or word == name), None)
@@ -166,7 +166,7 @@ def keyword_hint(word: str, section: str, begun: bool, forms: dict[str, LineForm
             "The lines of this section begin with: " + ", ".join(f"`{name}`" for name in forms) + ".")
 
 
-def shape_hints(line: str, section: str, begun: bool, forms: dict[str, LineForm]) -> list[Hint]:
+def shape_hints(line: str, section: str, begun: bool, forms: dict[str, LineForm]) -> list[FaultAndHint]:
     """Returns all that is wrong with a line of no form, the bytes first."""
     hints = character_hints(line)
     if not begun and section == "circuit" and line.split(" ")[0].startswith("bbmcheck"):
@@ -179,6 +179,6 @@ def shape_hints(line: str, section: str, begun: bool, forms: dict[str, LineForm]
     if form is None:
         return [*hints, keyword_hint(words[0], section, begun, forms)]
     hint = form_hint(words, form, section)
-    is_fixed = len(words) == len(form) and all(word_mismatch(word, place) is None for word,
+    is_fixed = len(words) == len(form) and all(word_mismatch_words(word, place) is None for word,
                                                place in zip(words[1:], form[1:]))
     return hints if hints and is_fixed else [*hints, hint]

@@ -40,7 +40,7 @@ def certificate_digest(text: str) -> str:
     return hashlib.sha256(section.encode("latin-1")).hexdigest()
 
 
-def cuts_of(bundle: str) -> list[list[str]]:
+def cuts_by_module(bundle: str) -> list[list[str]]:
     """Returns the wires that each module of a bundle cuts."""
     modules = bundle[certificate_start(bundle):].split("\nmodule ")[1:]
     return [[line.split(" ")[1] for line in module.split("\n", MAX_CUTS + 1)[1:] if line.startswith("cut ")]

@@ -8,17 +8,17 @@ from .certificates import KIND_ORDER as MODULE_ORDER
 from .circuits import KIND_ORDER as CIRCUIT_ORDER
 from .gates import GATE_SIZES
 from .layouts import KIND_ORDER as LAYOUT_ORDER
-from .limits import LIMITS_LINE
+from .limits import LIMITS_2_LINE
 
-LAST_NUMBER = 10 ** 9
+NUMBER_SORTED_LAST = 10 ** 9
 SECTION_ORDERS = {"circuit": CIRCUIT_ORDER, "layout": LAYOUT_ORDER}
-MODULE_RANKS = {kind: rank for rank, kind in enumerate(MODULE_ORDER)}
+MODULE_LINE_RANKS = {kind: rank for rank, kind in enumerate(MODULE_ORDER)}
 # A line that is in its one spelling already, apart from its place.
 SPELLED_LINE_PATTERN = re.compile(r"[a-z*1-9][a-z0-9_*]*(?: (?:->|0|[a-z*1-9][a-z0-9_*]*))*")
 
 
 @dataclass
-class Spelling:
+class SpelledText:
     """A text in its one spelling, what was changed besides spaces, and how many comments were left out."""
 
     text: str = ""
@@ -43,7 +43,7 @@ def byte_order_mark_length(text: str) -> int:
     return 3 if text.startswith("\xef\xbb\xbf") else 1 if text.startswith("\ufeff") else 0
 
 
-def lines_without_comments(text: str, spelling: Spelling) -> Iterator[str]:
+def lines_without_comments(text: str, spelling: SpelledText) -> Iterator[str]:
     """Yields the lines that contain a word, with single spaces, and without comments, byte order mark and leading
     zeros."""
     start = byte_order_mark_length(text)
@@ -61,10 +61,10 @@ def lines_without_comments(text: str, spelling: Spelling) -> Iterator[str]:
             yield " ".join(words)
 
 
-def number_at(words: list[str], index: int) -> int:
+def sorting_number_at(words: list[str], index: int) -> int:
     """Returns the number at a place of a line; lines of another form come last."""
     word = words[index] if index < len(words) else ""
-    return int(word) if word.isdecimal() and len(word) <= 9 else LAST_NUMBER
+    return int(word) if word.isdecimal() and len(word) <= 9 else NUMBER_SORTED_LAST
 
 
 def module_line_key(line: str) -> int:
@@ -74,13 +74,13 @@ def module_line_key(line: str) -> int:
     """
     words = line.split(" ")
     kind = words[0]
-    key = MODULE_RANKS.get(kind, len(MODULE_RANKS)) << 96
+    key = MODULE_LINE_RANKS.get(kind, len(MODULE_LINE_RANKS)) << 96
     if kind in ("edge", "halo"):
-        time = 0 if words[1:2] == ["*"] else number_at(words, 1) + 1
-        return key | time << 64 | number_at(words, 3) << 32 | number_at(words, 2)
+        time = 0 if words[1:2] == ["*"] else sorting_number_at(words, 1) + 1
+        return key | time << 64 | sorting_number_at(words, 3) << 32 | sorting_number_at(words, 2)
     if kind == "stop":
-        return key | number_at(words, 1) << 64 | number_at(words, 4) << 32 | number_at(words, 3)
-    return key | number_at(words, 1) if kind in ("use", "keep") else key
+        return key | sorting_number_at(words, 1) << 64 | sorting_number_at(words, 4) << 32 | sorting_number_at(words, 3)
+    return key | sorting_number_at(words, 1) if kind in ("use", "keep") else key
 
 
 def first_word(line: str) -> str:
@@ -88,14 +88,14 @@ def first_word(line: str) -> str:
     return line.partition(" ")[0]
 
 
-def rank_of(line: str, order: list[str]) -> int:
+def line_kind_rank(line: str, order: list[str]) -> int:
     """Returns the place of a line's kind among the kinds of its section or module. Unknown kinds come last."""
     word = first_word(line)
     kind = "gate" if word in GATE_SIZES and "gate" in order else word
     return order.index(kind) if kind in order else len(order)
 
 
-def sorted_distinct_lines(lines: list[str], spelling: Spelling) -> list[str]:
+def sorted_distinct_lines(lines: list[str], spelling: SpelledText) -> list[str]:
     """Returns the lines of a module, the first aside, in their order, each once."""
     ordered = sorted(lines, key=module_line_key)
     kept: list[str] = []
@@ -107,7 +107,7 @@ def sorted_distinct_lines(lines: list[str], spelling: Spelling) -> list[str]:
     return kept
 
 
-def sorted_certificate(lines: list[str], spelling: Spelling) -> list[str]:
+def sorted_certificate(lines: list[str], spelling: SpelledText) -> list[str]:
     """Returns the lines of a certificate with the lines of each module in their order."""
     result: list[str] = []
     module: list[str] | None = None
@@ -123,13 +123,13 @@ def sorted_certificate(lines: list[str], spelling: Spelling) -> list[str]:
     return result + sorted_distinct_lines(module or [], spelling)
 
 
-def sorted_section(lines: list[str], spelling: Spelling) -> list[str]:
+def sorted_section(lines: list[str], spelling: SpelledText) -> list[str]:
     """Returns the lines of a section in their order, between its header and its `end`."""
     kind, has_end = first_word(lines[0]), lines[-1] == "end" and len(lines) > 1
     body, tail = (lines[1:-1], ["end"]) if has_end else (lines[1:], [])
     if kind in SECTION_ORDERS:
         order = SECTION_ORDERS[kind]
-        after = sorted(body, key=lambda line: rank_of(line, order))
+        after = sorted(body, key=lambda line: line_kind_rank(line, order))
     elif kind == "certificate":
         after = sorted_certificate(body, spelling)
     else:
@@ -151,25 +151,25 @@ def source_line_number(source: str, text: str, line: int) -> int | None:
     return kept[line - 1][0] if line <= len(kept) else len(lines)
 
 
-def spelling_of(text: str) -> Spelling:
+def spell_text(text: str) -> SpelledText:
     """Returns a text in its one spelling. What it can't change into a good line stays, for the program to refuse."""
-    spelling = Spelling()
+    spelling = SpelledText()
     parts: list[str] = []
     section: list[str] = []
 
-    def close() -> None:
+    def add_section() -> None:
         """Adds the section that was read."""
         if section:
             parts.append("\n".join(sorted_section(section, spelling)) + "\n")
             section.clear()
 
     for line in lines_without_comments(text, spelling):
-        if line == LIMITS_LINE and not parts and not section:
-            parts.append(f"{LIMITS_LINE}\n")
+        if line == LIMITS_2_LINE and not parts and not section:
+            parts.append(f"{LIMITS_2_LINE}\n")
             continue
         section.append(line)
         if line == "end":
-            close()
-    close()
+            add_section()
+    add_section()
     spelling.text = "".join(parts)
     return spelling

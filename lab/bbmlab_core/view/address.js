@@ -7,7 +7,7 @@
  */
 import * as limits from "./limits.js";
 
-const MAX_LENGTH = 65536;
+const MAX_HASH_LENGTH = 65536;
 const MIN_SCALE = 0.05, MAX_SCALE = 80, MAX_PLACE = 2 * limits.SECOND_LIMITS.maxSide;
 
 /** Returns a number that is written plainly and lies in a range, or undefined. */
@@ -17,7 +17,7 @@ function readNumber(text, least, most) {
 }
 
 /** Returns a whole number of a range, or undefined. */
-function readCount(text, least, most) {
+function readWholeNumber(text, least, most) {
   const value = readNumber(text, least, most);
   return Number.isInteger(value) ? value : undefined;
 }
@@ -32,18 +32,18 @@ function readZoom(text) {
 }
 
 /**
- * Reads an address. Anybody may have written it: what is not as `hashText` writes it is left out.
+ * Reads an address. Anybody may have written it: what is not as `addressFragment` writes it is left out.
  * @type {(hash: string, limits: Limits) => Shown}
  */
-function read(hash, { steps, names, faults }) {
-  if (hash.length > MAX_LENGTH) return {};
+function readAddress(hash, { steps, names, faults }) {
+  if (hash.length > MAX_HASH_LENGTH) return {};
   const said = new Map(hash.replace(/^#/, "").split("&").map((part) => part.split("="))
     .filter((pair) => pair.length === 2)), shown = {};
   const known = new Set(names);
-  const readers = { t: ["time", (text) => readCount(text, 0, steps)], z: ["zoom", readZoom],
-    fault: ["fault", (text) => readCount(text, 1, faults)],
+  const readers = { t: ["time", (text) => readWholeNumber(text, 0, steps)], z: ["zoom", readZoom],
+    fault: ["fault", (text) => readWholeNumber(text, 1, faults)],
     on: ["on", (text) => text.split(",").filter((name) => known.has(name))],
-    trails: ["trails", (text) => ({ 0: false, 1: true })[readCount(text, 0, 1)]] };
+    trails: ["trails", (text) => ({ 0: false, 1: true })[readWholeNumber(text, 0, 1)]] };
   for (const [key, [member, reader]] of Object.entries(readers)) {
     const value = said.has(key) ? reader(said.get(key)) : undefined;
     if (value !== undefined) shown[member] = value;
@@ -52,7 +52,7 @@ function read(hash, { steps, names, faults }) {
 }
 
 /** Returns the part of an address behind "#". @type {(shown: Shown) => string} */
-function hashText({ time, on, zoom, fault, trails }) {
+function addressFragment({ time, on, zoom, fault, trails }) {
   const parts = [];
   if (time !== undefined) parts.push(`t=${time}`);
   if (on !== undefined) parts.push(`on=${on.join(",")}`);
@@ -62,4 +62,4 @@ function hashText({ time, on, zoom, fault, trails }) {
   return parts.join("&");
 }
 
-export { read, hashText, MIN_SCALE, MAX_SCALE };
+export { readAddress, addressFragment, MIN_SCALE, MAX_SCALE };

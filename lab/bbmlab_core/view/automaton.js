@@ -54,7 +54,7 @@ class CellNumbering {
  * A set of cells of a layout with a byte for each possible cell: a step of many balls is several times faster than with
  * a Set.
  */
-class Cells {
+class CellSet {
   numbering;
   bytes;
 
@@ -65,9 +65,9 @@ class Cells {
     for (const key of keys) this.bytes[key] = 1;
   }
 
-  /** @returns {Cells} */
+  /** @returns {CellSet} */
   copy() {
-    const same = new Cells([], this.numbering);
+    const same = new CellSet([], this.numbering);
     same.bytes.set(this.bytes);
     return same;
   }
@@ -115,7 +115,7 @@ function applyBlockRule(bytes, row, a, changed) {
 
 /**
  * Applies the block rule to the blocks of some cells, and returns the cells that changed.
- * @param {Cells} live
+ * @param {CellSet} live
  * @param {number[][]} lists
  * @param {number} odd
  * @returns {number[]}
@@ -158,13 +158,13 @@ const mirrorCellsByLayout = new WeakMap();
 
 /**
  * Returns the cells of a layout's mirrors, and the cells of the blocks in which mirrors alone change.
- * @returns {{cells: Cells, restless: number[]}}
+ * @returns {{cells: CellSet, restless: number[]}}
  */
-function mirrorsOf(layout) {
+function mirrorAndRestlessCells(layout) {
   if (!mirrorCellsByLayout.has(layout)) {
     const numbering = new CellNumbering(layout);
     const keys = startKeys({ mirrors: layout.mirrors, balls: [], ins: [] }, () => false, numbering);
-    const cells = new Cells(keys, numbering);
+    const cells = new CellSet(keys, numbering);
     const copy = cells.copy(), restless = [0, 1].flatMap((odd) => {
       const found = applyBlockRules(copy, [keys], odd);
       for (const key of found) copy.bytes[key] ^= 1;
@@ -212,7 +212,7 @@ class WholeRun {
 
   /** @param {Layout} layout @param {Set<string>} on the inputs that are true */
   constructor(layout, on) {
-    const { cells, restless } = mirrorsOf(layout);
+    const { cells, restless } = mirrorAndRestlessCells(layout);
     const keys = startKeys({ ...layout, mirrors: [] }, (name) => on.has(name), cells.numbering);
     this.layout = layout;
     this.numbering = cells.numbering;
@@ -284,14 +284,14 @@ class WholeRun {
   }
 
   /** Makes the next step, and returns whether there is one and it stays in the rectangle. */
-  forward() {
+  stepForward() {
     if (this.time === this.layout.steps || this.leftAt === this.time + 1) return false;
     this.takeStep(this.time % 2, 1);
     this.time += 1;
     for (const key of this.recent[1]) {
       if (this.live.has(key) && !this.isInside(key)) {
         this.leftAt = this.time;
-        this.backward();
+        this.stepBackward();
         return false;
       }
     }
@@ -301,7 +301,7 @@ class WholeRun {
   }
 
   /** Undoes the last step, and returns whether there was one. */
-  backward() {
+  stepBackward() {
     if (this.time === 0) return false;
     this.takeStep((this.time - 1) % 2, -1);
     this.time -= 1;
@@ -323,17 +323,17 @@ class WholeRun {
   /** Goes to a time, or to the last time before a ball leaves the rectangle. */
   seek(time) {
     this.jumpToSnapshot(time);
-    while (this.time < time && this.forward());
-    while (this.time > time && this.backward());
+    while (this.time < time && this.stepForward());
+    while (this.time > time && this.stepBackward());
   }
 }
 
 /**
  * Returns the moves of a step, as cells from, to, from, to… A collision goes by the sides of its block.
  * @param {number[]} changed the cells that the step changed, by the diagonals of their blocks
- * @param {Cells} before the cells that were live before it
+ * @param {CellSet} before the cells that were live before it
  */
-function movesOf(changed, before) {
+function movesOfChanges(changed, before) {
   const moves = [];
   for (let index = 0; index < changed.length; index += 2) {
     const one = changed[index], two = changed[index + 1], isOne = before.has(one);
@@ -359,8 +359,8 @@ function noteMoves(run, length) {
   .filter((step) => !moves.has(step));
   if (missing.length === 0) return;
   const until = moves.has(time - 1) ? Math.max(0, missing.at(-1) - length) : missing.at(-1), past = run.copy();
-  while (past.time > until && past.backward()) if (!moves.has(past.time)) moves.set(past.time,
-      movesOf(past.recent[1], past.live));
+  while (past.time > until && past.stepBackward()) if (!moves.has(past.time)) moves.set(past.time,
+      movesOfChanges(past.recent[1], past.live));
   for (const step of moves.keys()) if (Math.abs(step - time) > 3 * length) moves.delete(step);
 }
 
@@ -369,7 +369,7 @@ function noteMoves(run, length) {
  */
 function movesOfLastStep(run) {
   const { live, recent } = run;
-  return movesOf(recent[1], { has: (key) => !live.has(key) });
+  return movesOfChanges(recent[1], { has: (key) => !live.has(key) });
 }
 
 /**
@@ -458,16 +458,16 @@ class ModuleRun {
     this.every = snapshotSpacing(data.layout.steps);
     this.always = [];
     this.timed = new Map();
-    for (const line of heardLines(data, number)) if (this.values.get(line[3])) this.fileHeardLine(line);
+    for (const line of heardLines(data, number)) if (this.values.get(line[3])) this.addHeardLine(line);
     const keys = startKeys(data.layout, (name) => Boolean(this.values.get(name)), this.numbering);
-    this.live = new Cells(keys.filter((key) => this.isInside(key)), this.numbering);
+    this.live = new CellSet(keys.filter((key) => this.isInside(key)), this.numbering);
     this.time = 0;
     this.recent = null;
     this.snapshots = new Map([[0, Int32Array.from(this.live.keys())]]);
   }
 
   /** Files a line whose signal is true. */
-  fileHeardLine([time, x, y]) {
+  addHeardLine([time, x, y]) {
     if (time !== null && !this.timed.has(time)) this.timed.set(time, []);
     (time === null ? this.always : this.timed.get(time)).push(this.numbering.keyOf(x, y));
   }
@@ -485,7 +485,7 @@ class ModuleRun {
   }
 
   /** Makes the next step: an even one in the box, an odd one with what is heard; then only the box is kept. */
-  forward() {
+  stepForward() {
     const heard = this.heardCellsNow();
     for (const key of heard) this.live.add(key);
     const lists = this.recent === null ? [this.live.keys()] : [...this.recent, heard];
@@ -506,12 +506,13 @@ class ModuleRun {
   seek(time) {
     const start = Math.max(...[...this.snapshots.keys()].filter((at) => at <= time));
     if (time < this.time || start > this.time) {
-      this.live = new Cells(this.snapshots.get(start), this.numbering);
+      this.live = new CellSet(this.snapshots.get(start), this.numbering);
       this.time = start;
       this.recent = null;
     }
-    while (this.time < time) this.forward();
+    while (this.time < time) this.stepForward();
   }
 }
 
-export { CellNumbering, Cells, WholeRun, ModuleRun, circuitValues, startKeys, mirrorsOf, lastMoves, movesOfLastStep };
+export { CellNumbering, CellSet, WholeRun, ModuleRun, circuitValues, startKeys, mirrorAndRestlessCells, lastMoves,
+  movesOfLastStep };

@@ -4,7 +4,7 @@
 // and 40,960 outputs takes three seconds.
 const ITEMS_AT_ONCE = 500;
 
-const element = (id) => document.getElementById(id);
+const elementById = (id) => document.getElementById(id);
 
 /** Returns a new element with a text. */
 function newElement(tag, text = "", className = "") {
@@ -41,4 +41,4 @@ function inputSwitch(name, isOn, take) {
   return label;
 }
 
-export { element, fillBox, inputSwitch, newElement };
+export { elementById, fillBox, inputSwitch, newElement };

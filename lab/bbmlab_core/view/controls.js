@@ -5,31 +5,31 @@ import * as panels from "./panels.js";
 import { Player } from "./player.js";
 import { countWithNoun, Stage } from "./stage.js";
 
-const { element } = panels;
-const data = JSON.parse(element("data").textContent);
-const player = new Player(data), { layout } = player;
-const parts = Object.fromEntries(
+const { elementById } = panels;
+const pageData = JSON.parse(elementById("data").textContent);
+const player = new Player(pageData), { layout } = player;
+const stageElements = Object.fromEntries(
   Object.entries({ whole: "whole", own: "own", note: "beside-note", wave: "wave", waveBox: "wave-box",
-  waveRest: "wave-rest", waveCursor: "wave-cursor" }).map(([name, id]) => [name, element(id)]));
-const stage = new Stage(player, parts), minimap = new Minimap(stage, element("map"));
-const entries = data.explanation ? data.explanation.entries : [];
-const addressLimits = { steps: layout.steps, names: player.names, faults: entries.length };
+  waveRest: "wave-rest", waveCursor: "wave-cursor" }).map(([name, id]) => [name, elementById(id)]));
+const stage = new Stage(player, stageElements), minimap = new Minimap(stage, elementById("map"));
+const reportEntries = pageData.explanation ? pageData.explanation.entries : [];
+const addressLimits = { steps: layout.steps, names: player.names, faults: reportEntries.length };
 // The buttons of the report, which of them is shown, and timers.
 const pageState = { buttons: [], entry: null, addressTimer: 0, speechTimer: 0, place: null };
 // How long the page waits after a change before it is spoken, and before it is written to the address, in milliseconds.
 const SPEECH_DELAY = 600, ADDRESS_DELAY = 250, PAN_STEP = 40;
 // Larger layouts show the ways at first: their cells are too small to be seen.
-const LARGE_SIDE = 512, MAX_TIMES = 6;
+const LARGE_LAYOUT_SIDE = 512, MAX_TIMES = 6;
 
 /** Says the state to who can't see it: when it has been still for a while, and not while it plays. */
 function speakSoon() {
   clearTimeout(pageState.speechTimer);
   if (player.direction !== 0) return;
   pageState.speechTimer = setTimeout(() => {
-    const words = [`Time ${player.run.time} of ${layout.steps}.`, element("status").textContent,
+    const words = [`Time ${player.run.time} of ${layout.steps}.`, elementById("status").textContent,
       panels.outputSummary(player)];
-    if (player.own) words.push(element("beside-title").textContent, stage.differenceWords());
-    element("spoken").textContent = words.join(" ");
+    if (player.own) words.push(elementById("beside-title").textContent, stage.differenceWords());
+    elementById("spoken").textContent = words.join(" ");
   }, SPEECH_DELAY);
 }
 
@@ -39,7 +39,7 @@ function addressState() {
   const isFirst = on.length === player.first.length && player.first.every((name) => player.on.has(name));
   const { entry } = pageState, { time } = player.run;
   return { time: time > 0 || entry !== null ? time : undefined, on: isFirst && entry === null ? undefined : on,
-    zoom: stage.isFit ? undefined : stage.viewNow(), fault: entry === null ? undefined
+    zoom: stage.isFit ? undefined : stage.scaleAndCentre(), fault: entry === null ? undefined
       : entry + 1, trails: stage.hasTrails ? undefined : false };
 }
 
@@ -48,7 +48,7 @@ function writeAddressSoon() {
   clearTimeout(pageState.addressTimer);
   if (player.direction !== 0) return;
   pageState.addressTimer = setTimeout(() => {
-    const text = address.hashText(addressState()), [page] = location.href.split("#");
+    const text = address.addressFragment(addressState()), [page] = location.href.split("#");
     // A page that a frame shows may have no address of its own.
     try { history.replaceState(null, "", text ? `${page}#${text}` : page); } catch { return; }
   }, ADDRESS_DELAY);
@@ -56,47 +56,47 @@ function writeAddressSoon() {
 
 /** Shows the state that the address says, and the first state for what it does not say. */
 function applyAddress() {
-  const { time, on, zoom, fault, trails = true } = address.read(location.hash, addressLimits);
+  const { time, on, zoom, fault, trails = true } = address.readAddress(location.hash, addressLimits);
   const names = new Set(on || player.first);
-  setTrails(trails);
+  setTrailsShown(trails);
   // A line of the report brings inputs, a time and a place, which the address may then say otherwise.
-  if (fault === undefined) closeEntry();
-  else showEntry(fault - 1);
+  if (fault === undefined) closeReportEntry();
+  else showReportEntry(fault - 1);
   if (fault === undefined
       || on) player.setInputs(Object.fromEntries(player.names.map((name) => [name, names.has(name)])));
   player.restart(time ?? (fault === undefined ? 0 : player.target));
   if (zoom) {
     stage.centreOn(zoom[1], zoom[2], zoom[0]);
     stage.isFit = false;
-  } else if (fault === undefined) stage.fit();
+  } else if (fault === undefined) stage.fitWholeLayout();
 }
 
 /** Shows the time, and whether a ball leaves. */
 function showTime() {
-  const { time, leftAt } = player.run, slider = element("slider");
+  const { time, leftAt } = player.run, slider = elementById("slider");
   slider.value = player.target;
   slider.setAttribute("aria-valuetext", `time ${player.target} of ${layout.steps}`);
-  element("time").textContent = `${time} of ${layout.steps}`;
+  elementById("time").textContent = `${time} of ${layout.steps}`;
   const next = time === layout.steps ? "The last time." : `Next come the ${time % 2 ? "odd" : "even"} blocks.`;
-  element("status").textContent = leftAt === null ? next
+  elementById("status").textContent = leftAt === null ? next
     : `Step ${leftAt} makes a cell outside the rectangle live: the run ends before it.`;
 }
 
 /** Shows what the buttons to play do now. */
-function showPlay() {
+function showPlayButtons() {
   for (const [id, direction, text] of [["play", 1, "play ▶"], ["reverse", -1, "◀ reverse"]]) {
-    element(id).textContent = player.direction === direction ? "■ stop" : text;
+    elementById(id).textContent = player.direction === direction ? "■ stop" : text;
   }
 }
 
 /** Shows the cell under the pointer with what there is. */
-function showCell() {
+function showPointedCellWords() {
   stage.pointed = pageState.place ? stage.cellAt(...pageState.place) : stage.mark;
-  stage.showCellWords(element("cell"), stage.pointed);
+  stage.showCellWords(elementById("cell"), stage.pointed);
 }
 
 /** Lets the wire under the pointer stand out, or none while the picture moves. */
-function pointAtWire(isMoving) {
+function highlightPointedWire(isMoving) {
   const found = pageState.place && !isMoving && stage.cellAt(...pageState.place) ? stage.wireAt(...pageState.place)
     : null;
   stage.pointedWire = found && found.wire;
@@ -105,16 +105,16 @@ function pointAtWire(isMoving) {
 
 /** Says what is known of the wire under the pointer, or else of the one that was looked for. */
 function showWireWords(found) {
-  const wire = found ? found.wire : stage.wire, words = element("wire-words");
+  const wire = found ? found.wire : stage.wire, words = elementById("wire-words");
   const when = found ? `; here at time ${found.times.slice(0, MAX_TIMES).join(", ")}` : "";
-  words.textContent = wire ? `${stage.wires.wordsOf(wire)}${when}.` : "";
+  words.textContent = wire ? `${stage.wires.wireWords(wire)}${when}.` : "";
 }
 
 /** Shows all ways of the wire whose name was typed, or says that there is none. */
 function showTypedWire() {
-  const name = element("find-wire-name").value.trim(), wire = stage.wires.byName.get(name);
+  const name = elementById("find-wire-name").value.trim(), wire = stage.wires.byName.get(name);
   pageState.place = null;
-  pointAtWire(false);
+  highlightPointedWire(false);
   if (name === "") {
     stage.showWire(null);
     showWireWords(null);
@@ -122,7 +122,7 @@ function showTypedWire() {
   }
   if (!wire) {
     stage.showWire(null);
-    element("wire-words").textContent = `No ball flies for a wire \u201c${name}\u201d.`;
+    elementById("wire-words").textContent = `No ball flies for a wire \u201c${name}\u201d.`;
     return;
   }
   stage.showWire(wire);
@@ -136,8 +136,8 @@ function goToCell(x, y) {
   stage.mark = [x, y];
   pageState.place = null;
   stage.lookAt([x + 0.5, y + 0.5], null);
-  showCell();
-  if (innerWidth <= 800) element("whole").scrollIntoView({ block: "nearest" });
+  showPointedCellWords();
+  if (innerWidth <= 800) elementById("whole").scrollIntoView({ block: "nearest" });
 }
 
 /** Returns all stops of a wire in order of time. */
@@ -145,12 +145,12 @@ const stopsOfWire = (wire) => player.modules.flatMap((module, number) => module.
   .map(([time, , x, y]) => ({ time, cell: [x, y], module: number }))).sort((a, b) => a.time - b.time);
 
 /** Returns the stop that a line `delay` or `meet` speaks of, if there is one. */
-function stopOfFacts(facts) {
+function stopOfReportLine(facts) {
   if (facts.last_stops) {
     const late = Object.entries(facts.last_stops).sort((a, b) => b[1] - a[1])[0];
     return late && stopsOfWire(late[0]).at(-1);
   }
-  const gate = data.circuit && facts.gate !== undefined && data.circuit.gates[facts.gate];
+  const gate = pageData.circuit && facts.gate !== undefined && pageData.circuit.gates[facts.gate];
   return gate ? stopsOfWire(gate.outs[0])[0] || (gate.ins[0] && stopsOfWire(gate.ins[0]).at(-1)) : undefined;
 }
 
@@ -158,27 +158,27 @@ function stopOfFacts(facts) {
 function openModuleRun(number, values) {
   player.openModuleRun(number, values);
   const words = Object.entries(values).map(([name, value]) => `${name}=${value}`).join(" ") || "no cuts";
-  element("beside-title").textContent = `Module ${number} by itself with ${words}.`;
-  element("beside").hidden = false;
+  elementById("beside-title").textContent = `Module ${number} by itself with ${words}.`;
+  elementById("beside").hidden = false;
 }
 
 /** Closes the run of a module by itself. */
 function closeModuleRun() {
   player.own = null;
-  element("beside").hidden = true;
-  if (stage.isFit) stage.fit();
+  elementById("beside").hidden = true;
+  if (stage.isFit) stage.fitWholeLayout();
   else stage.requestPaint();
 }
 
 /** Notes which line of the report is shown: its button is pressed. */
-function markEntry(number) {
+function markReportEntry(number) {
   pageState.entry = number;
   pageState.buttons.forEach((button, index) => button.setAttribute("aria-pressed", String(index === number)));
 }
 
 /** Shows no line of the report. */
-function closeEntry() {
-  markEntry(null);
+function closeReportEntry() {
+  markReportEntry(null);
   stage.fault = null;
   stage.module = null;
   stage.mark = null;
@@ -186,10 +186,10 @@ function closeEntry() {
 }
 
 /** Goes to the module, time, assignment and cell of a line of the report. */
-function showEntry(number) {
-  const { facts } = entries[number], stop = facts.cell || facts.assignment ? undefined : stopOfFacts(facts);
-  markEntry(number);
-  player.play(0);
+function showReportEntry(number) {
+  const { facts } = reportEntries[number], stop = facts.cell || facts.assignment ? undefined : stopOfReportLine(facts);
+  markReportEntry(number);
+  player.setPlayDirection(0);
   stage.fault = facts.cell || (stop ? stop.cell : null);
   stage.mark = null;
   stage.module = facts.module !== undefined ? facts.module : stop ? stop.module : null;
@@ -205,51 +205,51 @@ function showEntry(number) {
 
 /** Goes to the next (1) or previous (-1) line of the report that is against the design. */
 function goToNextFault(direction) {
-  const faults = entries.flatMap((entry, number) => (entry.is_against ? [number] : []));
+  const faults = reportEntries.flatMap((entry, number) => (entry.is_against ? [number] : []));
   if (faults.length === 0) return;
   const at = faults.indexOf(pageState.entry);
   const number = faults[at < 0 ? (direction > 0 ? 0 : faults.length - 1)
     : (at + direction + faults.length) % faults.length];
-  showEntry(number);
+  showReportEntry(number);
   pageState.buttons[number].scrollIntoView({ block: "nearest" });
-  if (innerWidth <= 800) element("whole").scrollIntoView({ block: "nearest" });
+  if (innerWidth <= 800) elementById("whole").scrollIntoView({ block: "nearest" });
 }
 
 /** Shows or hides the trails. */
-function setTrails(isOn) {
+function setTrailsShown(isOn) {
   stage.hasTrails = isOn;
-  element("trails").checked = isOn;
+  elementById("trails").checked = isOn;
   stage.requestPaint();
   writeAddressSoon();
 }
 
 /** Shows or hides the ways. */
 function setWaysShown(isOn) {
-  element("ways").checked = isOn;
+  elementById("ways").checked = isOn;
   stage.setWaysShown(isOn);
 }
 
 /** Prepares what shows the ways, if the page has them. */
 function setUpWays() {
   const { names, list } = stage.wires;
-  element("ways-part").hidden = element("find-wire").hidden = element("wire-words").hidden = list.length === 0;
+  for (const id of ["ways-part", "find-wire", "wire-words"]) elementById(id).hidden = list.length === 0;
   // The first picture does not wait for 61,440 names.
-  element("find-wire-name").addEventListener("focus", () => element("wire-names").replaceChildren(...names.map(
+  elementById("find-wire-name").addEventListener("focus", () => elementById("wire-names").replaceChildren(...names.map(
     (name) => Object.assign(document.createElement("option"), { value: name }))), { once: true });
-  if (list.length > 0) setWaysShown(Math.max(layout.width, layout.height) > LARGE_SIDE);
-  element("ways").addEventListener("change", (event) => setWaysShown(event.target.checked));
-  element("find-wire").addEventListener("submit", (event) => {
+  if (list.length > 0) setWaysShown(Math.max(layout.width, layout.height) > LARGE_LAYOUT_SIDE);
+  elementById("ways").addEventListener("change", (event) => setWaysShown(event.target.checked));
+  elementById("find-wire").addEventListener("submit", (event) => {
     event.preventDefault();
     showTypedWire();
   });
-  if (stage.wires.sampled) element("ways-part").title += `, ${stage.wires.sampled}`;
+  if (stage.wires.sampled) elementById("ways-part").title += `, ${stage.wires.sampled}`;
 }
 
 /** Makes one step. */
 const makeStep = (direction) => player.stopAndSeek(player.target + direction);
 
 /** Plays in a direction, or stops if it plays so already. */
-const togglePlay = (direction) => player.play(player.direction === direction ? 0 : direction);
+const togglePlay = (direction) => player.setPlayDirection(player.direction === direction ? 0 : direction);
 
 /** Writes a file to the reader's disk. */
 function saveFile(file, kind) {
@@ -263,13 +263,14 @@ function saveFile(file, kind) {
 
 const PAN_KEYS = { ArrowLeft: [-PAN_STEP, 0], ArrowRight: [PAN_STEP, 0], ArrowUp: [0, -PAN_STEP],
   ArrowDown: [0, PAN_STEP] };
-const ACTIONS = {
-  " ": () => player.play(player.direction ? 0 : 1), b: () => togglePlay(-1), ArrowRight: () => makeStep(1),
+const KEY_ACTIONS = {
+  " ": () => player.setPlayDirection(player.direction ? 0 : 1), b: () => togglePlay(-1), ArrowRight: () => makeStep(1),
     ArrowLeft: () => makeStep(-1),
-  Home: () => player.seek(0), End: () => player.seek(layout.steps), 0: () => stage.fit(), "+": () => stage.zoom(1.25),
+  Home: () => player.seek(0), End: () => player.seek(layout.steps), 0: () => stage.fitWholeLayout(),
+  "+": () => stage.zoom(1.25),
     "=": () => stage.zoom(1.25),
   "-": () => stage.zoom(0.8), n: () => goToNextFault(1), p: () => goToNextFault(-1),
-  t: () => setTrails(!stage.hasTrails), w: () => { if (stage.wires.list.length) setWaysShown(!stage.hasWays); },
+  t: () => setTrailsShown(!stage.hasTrails), w: () => { if (stage.wires.list.length) setWaysShown(!stage.hasWays); },
 };
 
 /** Whether the element that has the focus uses a key itself. */
@@ -283,7 +284,7 @@ function isKeyUsedByElement(target, key) {
 function onKey(event) {
   if (event.ctrlKey || event.metaKey || event.altKey || isKeyUsedByElement(event.target, event.key)) return;
   if (event.shiftKey && PAN_KEYS[event.key]) stage.pan(...PAN_KEYS[event.key]);
-  else if (Object.hasOwn(ACTIONS, event.key)) ACTIONS[event.key]();
+  else if (Object.hasOwn(KEY_ACTIONS, event.key)) KEY_ACTIONS[event.key]();
   else return;
   event.preventDefault();
 }
@@ -293,7 +294,7 @@ function onKey(event) {
  * zoom.
  */
 function listenToFingers(canvas) {
-  canvas.addEventListener("pointerdown", (event) => stage.putFinger(event));
+  canvas.addEventListener("pointerdown", (event) => stage.notePressedFinger(event));
   for (const name of ["pointerup", "pointercancel"]) canvas.addEventListener(name,
       (event) => stage.fingers.delete(event.pointerId));
   canvas.addEventListener("pointermove", (event) => {
@@ -306,11 +307,11 @@ function listenToFingers(canvas) {
 
 /** Shows the cell under the pointer, and goes to a time where the waveform is pressed. */
 function listenToPointers() {
-  const { whole, wave } = parts;
+  const { whole, wave } = stageElements;
   const point = (event) => {
     pageState.place = [event.offsetX, event.offsetY];
-    pointAtWire(event.buttons !== 0);
-    showCell();
+    highlightPointedWire(event.buttons !== 0);
+    showPointedCellWords();
     stage.requestPaint();
   };
   whole.addEventListener("pointermove", point);
@@ -318,50 +319,50 @@ function listenToPointers() {
   whole.addEventListener("pointerleave", (event) => {
     if (event.pointerType !== "mouse") return;
     pageState.place = null;
-    pointAtWire(false);
+    highlightPointedWire(false);
     stage.requestPaint();
   });
   const seek = (event) => { if (event.buttons & 1) player.stopAndSeek(stage.timeAt(event.offsetX)); };
   wave.addEventListener("pointerdown", seek);
   wave.addEventListener("pointermove", seek);
-  parts.waveBox.addEventListener("scroll", () => stage.paintWave());
+  stageElements.waveBox.addEventListener("scroll", () => stage.paintWave());
   listenToFingers(whole);
 }
 
 /** Sets what the buttons and fields do. */
 function listenToButtons() {
-  const clicks = { play: () => togglePlay(1), reverse: () => togglePlay(-1), back: ACTIONS.ArrowLeft,
-    next: ACTIONS.ArrowRight, first: ACTIONS.Home,
-    last: ACTIONS.End, fit: () => stage.fit(), in: () => stage.zoom(1.25), out: () => stage.zoom(0.8),
+  const clicks = { play: () => togglePlay(1), reverse: () => togglePlay(-1), back: KEY_ACTIONS.ArrowLeft,
+    next: KEY_ACTIONS.ArrowRight, first: KEY_ACTIONS.Home,
+    last: KEY_ACTIONS.End, fit: () => stage.fitWholeLayout(), in: () => stage.zoom(1.25), out: () => stage.zoom(0.8),
       "close-own": closeModuleRun,
     "previous-fault": () => goToNextFault(-1), "next-fault": () => goToNextFault(1),
       png: () => stage.makePng((file) => saveFile(file, "png")),
     svg: () => saveFile(new Blob([stage.svgText(`${document.title}, time ${player.run.time}`)],
       { type: "image/svg+xml" }), "svg") };
-  for (const [id, action] of Object.entries(clicks)) element(id).addEventListener("click", () => {
+  for (const [id, action] of Object.entries(clicks)) elementById(id).addEventListener("click", () => {
     action();
     writeAddressSoon();
   });
-  element("slider").max = layout.steps;
-  element("slider").addEventListener("input", (event) => player.seek(Number(event.target.value)));
-  element("speed").addEventListener("input", setRate);
-  element("trails").addEventListener("change", (event) => setTrails(event.target.checked));
-  element("skip").addEventListener("click", (event) => {
+  elementById("slider").max = layout.steps;
+  elementById("slider").addEventListener("input", (event) => player.seek(Number(event.target.value)));
+  elementById("speed").addEventListener("input", applySpeedSlider);
+  elementById("trails").addEventListener("change", (event) => setTrailsShown(event.target.checked));
+  elementById("skip").addEventListener("click", (event) => {
     event.preventDefault();
-    element("report-box").focus();
-    element("report-box").scrollIntoView();
+    elementById("report-box").focus();
+    elementById("report-box").scrollIntoView();
   });
-  element("go-to").addEventListener("submit", (event) => {
+  elementById("go-to").addEventListener("submit", (event) => {
     event.preventDefault();
-    const [x, y] = (element("go-to-cell").value.match(/\d+/g) || []).map(Number);
+    const [x, y] = (elementById("go-to-cell").value.match(/\d+/g) || []).map(Number);
     if (y !== undefined) goToCell(x, y);
   });
 }
 
 /** Sets how many steps a second are made by the slider, and shows it. */
-function setRate() {
-  player.rate = 2 ** Number(element("speed").value);
-  element("rate").textContent = `${countWithNoun(player.rate, "step", "steps")}/s`;
+function applySpeedSlider() {
+  player.rate = 2 ** Number(elementById("speed").value);
+  elementById("rate").textContent = `${countWithNoun(player.rate, "step", "steps")}/s`;
 }
 
 /** Sets what follows from changes of the player, the window and the address. */
@@ -375,44 +376,44 @@ function listenToChanges() {
     writeAddressSoon();
   });
   player.listen("progress", () => {
-    panels.showResults(player, goToCell);
+    panels.showOutputs(player, goToCell);
     stage.good = null;
     stage.paintWave();
   });
   player.listen("end", () => {
-    panels.showResults(player, goToCell);
+    panels.showOutputs(player, goToCell);
     showTime();
-    stage.takeResults();
+    stage.updateOutputStates();
     speakSoon();
   });
   player.listen("play", () => {
-    showPlay();
+    showPlayButtons();
     speakSoon();
     writeAddressSoon();
   });
   stage.onMove = () => {
-    pointAtWire(true);
+    highlightPointedWire(true);
     writeAddressSoon();
   };
-  stage.onPaint = showCell;
-  stage.onPainted = () => minimap.paint();
-  stage.listen();
+  stage.onPaint = showPointedCellWords;
+  stage.onPainted = () => minimap.paintMinimap();
+  stage.listenToWheelAndWindow();
   addEventListener("hashchange", applyAddress);
   document.addEventListener("keydown", onKey);
 }
 
-panels.makeInputs(player);
-panels.showSigns(player.modules.length > 0);
-element("wave-part").hidden = player.probes.length === 0;
+panels.fillInputSwitches(player);
+panels.showPictureLegend(player.modules.length > 0);
+elementById("wave-part").hidden = player.probes.length === 0;
 setUpWays();
 listenToPointers();
 listenToButtons();
 listenToChanges();
-setRate();
-showPlay();
-if (panels.showVerdict(data.explanation, player.modules.length > 0))
-    pageState.buttons = panels.showReport(data.explanation, (number) => {
-      showEntry(number);
-      if (innerWidth <= 800) element("whole").scrollIntoView({ block: "nearest" });
+applySpeedSlider();
+showPlayButtons();
+if (panels.showVerdict(pageData.explanation, player.modules.length > 0))
+    pageState.buttons = panels.showReport(pageData.explanation, (number) => {
+      showReportEntry(number);
+      if (innerWidth <= 800) elementById("whole").scrollIntoView({ block: "nearest" });
     }, goToCell);
 applyAddress();

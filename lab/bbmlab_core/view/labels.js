@@ -37,7 +37,7 @@ class Obstacles {
   }
 
   /** Returns what it costs to cover what lies below a rectangle. */
-  cost(rect) {
+  coveringCost(rect) {
     const near = new Set();
     this.visitSquares(rect, (square) => { for (const number of this.filed.get(square) || []) near.add(number); });
     let sum = 0;
@@ -49,7 +49,7 @@ class Obstacles {
 /**
  * Yields the places for a name, the best first: above or below, at the sides, at the corners, and then further away.
  */
-function* placesOf({ cell, width, height, isAbove }) {
+function* candidatePlaces({ cell, width, height, isAbove }) {
   const x = cell.x + cell.width / 2, y = cell.y + cell.height / 2, first = isAbove ? -1 : 1, half = width / 2;
   for (let away = 0; away <= MAX_LINES_AWAY; away += 1) {
     const lift = first * (cell.height / 2 + height / 2 + 1 + away * height);
@@ -66,10 +66,10 @@ function* placesOf({ cell, width, height, isAbove }) {
 /** Returns the place of a name that costs least. */
 function bestPlace(name, obstacles) {
   let best = null, least = Infinity;
-  for (const place of placesOf(name)) {
+  for (const place of candidatePlaces(name)) {
     const base = place.away * name.height;
     if (base >= least) break;
-    const cost = base + obstacles.cost(place.box);
+    const cost = base + obstacles.coveringCost(place.box);
     if (cost < least) {
       best = place;
       least = cost;
@@ -85,7 +85,7 @@ function bestPlace(name, obstacles) {
  * @param {Rect[]} ports cells of ports that have no name of their own
  * @returns {NamePlace[]}
  */
-function placeNames(names, signs, ports) {
+function chooseNamePlaces(names, signs, ports) {
   const obstacles = new Obstacles();
   for (const rect of signs) obstacles.add(rect, 1);
   for (const rect of [...ports, ...names.map((name) => name.cell)]) obstacles.add(rect, COVERING_COST);
@@ -96,4 +96,4 @@ function placeNames(names, signs, ports) {
   });
 }
 
-export { placeNames, sharedArea };
+export { chooseNamePlaces, sharedArea };

@@ -1,7 +1,7 @@
 /** A small picture of the whole layout with a frame about what the large one shows. A press goes there. */
 import * as painting from "./painting.js";
 
-const SIDE = 150;
+const MAP_SIDE_PIXELS = 150;
 
 class Minimap {
   stage;
@@ -20,16 +20,16 @@ class Minimap {
   }
 
   /** The pixels of a cell. */
-  get scale() { return SIDE / Math.max(this.stage.layout.width, this.stage.layout.height); }
+  get scale() { return MAP_SIDE_PIXELS / Math.max(this.stage.layout.width, this.stage.layout.height); }
 
   /** Puts a place of the small picture into the middle of the large one. */
   centreAt(x, y) {
     this.stage.centreOn(x / this.scale, y / this.scale, this.stage.scale);
-    this.stage.noteMoved();
+    this.stage.noteViewMoved();
   }
 
   /** Draws it, if the large picture does not show everything. */
-  paint() {
+  paintMinimap() {
     const { stage, canvas, scale } = this, { layout } = stage, [x0, y0, x1, y1] = stage.seenRange();
     canvas.hidden = x0 <= 0 && y0 <= 0 && x1 >= layout.width && y1 >= layout.height;
     if (canvas.hidden) return;
@@ -37,8 +37,8 @@ class Minimap {
     // A style that is written, even its own, has the page laid out again.
     if (canvas.style.width !== wide || canvas.style.height !== high) Object.assign(canvas.style, { width: wide,
       height: high });
-    const place = painting.clearedPlace(canvas, scale, 0, 0), { pen, inks } = place;
-    stage.tiles.paint(place);
+    const place = painting.clearCanvasForPainting(canvas, scale, 0, 0), { pen, inks } = place;
+    stage.tiles.paintShownTiles(place);
     pen.strokeStyle = inks.box;
     pen.lineWidth = 2;
     pen.strokeRect(x0 * scale, y0 * scale, Math.max(4, (x1 - x0) * scale), Math.max(4, (y1 - y0) * scale));

@@ -4,8 +4,8 @@ from the inputs.
 
 from typing import Any
 
-from ..physics.simulation import Table, cell_of
-from ..pictures.drawing import sampled_words, wire_tables_and_column
+from ..physics.simulation import TruthTable, cell_of
+from ..pictures.drawing import sampling_note, wire_tables_and_column
 from ..pictures.ways import WayRun
 from ..texts.circuits import Circuit
 from ..texts.documents import Document
@@ -27,7 +27,7 @@ def wire_levels(circuit: Circuit) -> dict[str, int]:
     return levels
 
 
-def run_within_limit(document: Document, tables: dict[str, Table], full: Table) -> WayRun | None:
+def way_run_within_limit(document: Document, tables: dict[str, TruthTable], full: TruthTable) -> WayRun | None:
     """Returns the run of a layout to its end, or None if it has too many moves."""
     layout = document.layout
     assert layout
@@ -46,20 +46,20 @@ def page_ways(document: Document) -> dict[str, Any] | None:
     that are equal to it.
     """
     tables, full, _ = wire_tables_and_column(document, [])
-    run = run_within_limit(document, tables, full)
+    run = way_run_within_limit(document, tables, full)
     if run is None:
         return None
-    equal: dict[Table, list[str]] = {}
+    equal: dict[TruthTable, list[str]] = {}
     for name, table in tables.items():
         equal.setdefault(table, []).append(name)
     names = equal | {full: ["1", *equal.get(full, [])]}
-    found: dict[Table, list[int]] = {}
+    found: dict[TruthTable, list[int]] = {}
     for start, end, table, time in run.pieces():
         if start != end:
             found.setdefault(table if table in names else NO_WIRE, []).extend((*cell_of(start), *cell_of(end), time))
     levels = wire_levels(document.circuit) if document.circuit else {}
     order = {table: number for number, table in enumerate(names)}
-    return {"sampled": sampled_words(document).strip(),
+    return {"sampled": sampling_note(document).strip(),
             "wires": [{"name": names[table][0] if table in names else "", "equal": names.get(table, [""])[1:],
                        "level": levels.get(names.get(table, [""])[0], 0),
                        "pieces": found[table]} for table in sorted(found, key=lambda table: order.get(table, -1))]}

@@ -5,34 +5,34 @@
  * string>}} Place where cells lie on a picture: `left` and `top` are the cell at its upper left corner, `scale` the
  * pixels for a cell
  */
-import { placeNames } from "./labels.js";
-import { isMany, paintSquares } from "./squares.js";
-import { Buckets, squaresInRange, visitModules, visitPorts, maxShortSide } from "./tiles.js";
+import { chooseNamePlaces } from "./labels.js";
+import { needsPixelDrawing, paintSquares } from "./squares.js";
+import { SquareIndex, squaresInRange, visitModules, visitPorts, maxModuleShortSide } from "./tiles.js";
 
 const INK_NAMES = ["ink", "soft", "paper", "plane", "grid", "border", "mirror", "ball", "box", "good", "bad", "edge",
   "halo", "stop", "wave"];
 const LINE_LETTERS = { edge: "E", halo: "H", stop: "S" };
-const RULER = { wide: 32, high: 18 }, WIRE_INK_COUNT = 8;
+const RULER_SIZE = { wide: 32, high: 18 }, WIRE_INK_COUNT = 8;
 // Below this scale tiles show what is still. Where modules are more than a few, borders that are closer, or more, hide
 // what is in them.
 const TILES_BELOW_SCALE = 4, CLOSE_BORDERS = 20, FEW_MODULES = 64, MANY_BORDERS = 3000;
 // Below this scale no lines of modules are drawn.
-const LINES_SCALE = 4;
+const MIN_CERTIFICATE_LINES_SCALE = 4;
 // A mirror so many cells from all ports does not matter for the places of their names.
-const PORT_MARGIN = 48;
+const PORT_MARGIN_CELLS = 48;
 // How many lines of text a name may be away from its cell, and the scales from which a few and many ports have names:
 // 2,520 names take 200 ms to place at scale 6, and 15 ms at scale 10.
 const MAX_LINES_AWAY = 2, NAMED_SCALE = 6, MANY_PORTS = 400, MANY_SCALE = 10;
 
 // Whether the page is dark, and the colours that were read then: to read them takes a millisecond of a frame.
-const dark = globalThis.matchMedia?.("(prefers-color-scheme: dark)"), read = { isDark: null, inks: {} };
+const darkModeQuery = globalThis.matchMedia?.("(prefers-color-scheme: dark)"), read = { isDark: null, inks: {} };
 
 /** Returns the colours of the page as it is shown now. */
 function inksNow() {
-  if (read.isDark === dark.matches) return read.inks;
+  if (read.isDark === darkModeQuery.matches) return read.inks;
   const style = getComputedStyle(document.documentElement);
   read.inks = Object.fromEntries(INK_NAMES.map((name) => [name, style.getPropertyValue(`--${name}`).trim()]));
-  read.isDark = dark.matches;
+  read.isDark = darkModeQuery.matches;
   return read.inks;
 }
 
@@ -43,7 +43,7 @@ function wireInks() {
 }
 
 /** Clears a canvas with its real number of pixels, and returns the place to draw on. @returns {Place} */
-function clearedPlace(canvas, scale, left, top) {
+function clearCanvasForPainting(canvas, scale, left, top) {
   const ratio = window.devicePixelRatio || 1, wide = canvas.clientWidth, high = canvas.clientHeight;
   const size = { width: Math.max(1, Math.floor(wide * ratio)), height: Math.max(1, Math.floor(high * ratio)) };
   const pen = canvas.getContext("2d");
@@ -54,20 +54,20 @@ function clearedPlace(canvas, scale, left, top) {
   return { pen, scale, left, top, wide, high, inks: inksNow() };
 }
 
-const px = (place, x) => (x - place.left) * place.scale;
-const py = (place, y) => (y - place.top) * place.scale;
+const pixelX = (place, x) => (x - place.left) * place.scale;
+const pixelY = (place, y) => (y - place.top) * place.scale;
 
 /** Whether a cell can be seen. */
-const isCellSeen = (place, x, y) => px(place, x + 1) >= 0 && py(place, y + 1) >= 0 && px(place, x) <= place.wide
-  && py(place, y) <= place.high;
+const isCellSeen = (place, x, y) => pixelX(place, x + 1) >= 0 && pixelY(place, y + 1) >= 0
+  && pixelX(place, x) <= place.wide && pixelY(place, y) <= place.high;
 
 /** Strokes the outline of a rectangle of cells, drawn inwards by some pixels. */
-function paintOutline(place, [x, y, w, h], ink, dash, inset, width) {
+function paintBoxOutline(place, [x, y, w, h], ink, dash, inset, width) {
   const { pen, scale } = place;
   pen.strokeStyle = ink;
   pen.lineWidth = width;
   pen.setLineDash(dash);
-  pen.strokeRect(px(place, x) + inset, py(place, y) + inset, Math.max(1, w * scale - 2 * inset),
+  pen.strokeRect(pixelX(place, x) + inset, pixelY(place, y) + inset, Math.max(1, w * scale - 2 * inset),
     Math.max(1, h * scale - 2 * inset));
   pen.setLineDash([]);
 }
@@ -75,7 +75,7 @@ function paintOutline(place, [x, y, w, h], ink, dash, inset, width) {
 /** Strokes the outlines of cells, x, y, x, y…, of which each can be seen. */
 function paintCellOutlines(place, found, ink, dash, inset, width) {
   const { pen, scale } = place, side = Math.max(1, scale - 2 * inset);
-  if (scale < 1 && isMany(pen, found.length / 2)) {
+  if (scale < 1 && needsPixelDrawing(pen, found.length / 2)) {
     // A pen draws a thin outline about one pixel as a dot that begins at a whole pixel.
     paintSquares(place, found, ink, width < 1 ? { side: 1 + width, isWhole: true }
       : { side: 1 + width, shift: -width / 2 });
@@ -84,8 +84,8 @@ function paintCellOutlines(place, found, ink, dash, inset, width) {
   pen.strokeStyle = ink;
   pen.lineWidth = width;
   pen.setLineDash(dash);
-  for (let index = 0; index < found.length; index += 2) pen.strokeRect(px(place, found[index]) + inset,
-      py(place, found[index + 1]) + inset, side, side);
+  for (let index = 0; index < found.length; index += 2) pen.strokeRect(pixelX(place, found[index]) + inset,
+      pixelY(place, found[index + 1]) + inset, side, side);
   pen.setLineDash([]);
 }
 
@@ -98,12 +98,12 @@ function paintBlockGrid(place, [x, y, w, h], odd) {
   pen.lineWidth = 1;
   pen.beginPath();
   for (let u = first(x, left); u <= Math.min(x + w, left + wide / scale + 1); u += 2) {
-    pen.moveTo(px(place, u), py(place, y));
-    pen.lineTo(px(place, u), py(place, y + h));
+    pen.moveTo(pixelX(place, u), pixelY(place, y));
+    pen.lineTo(pixelX(place, u), pixelY(place, y + h));
   }
   for (let v = first(y, top); v <= Math.min(y + h, top + high / scale + 1); v += 2) {
-    pen.moveTo(px(place, x), py(place, v));
-    pen.lineTo(px(place, x + w), py(place, v));
+    pen.moveTo(pixelX(place, x), pixelY(place, v));
+    pen.lineTo(pixelX(place, x + w), pixelY(place, v));
   }
   pen.stroke();
 }
@@ -148,7 +148,7 @@ function paintMirrors(place, found, least) {
   const { pen, scale } = place;
   pen.fillStyle = place.inks.mirror;
   pen.beginPath();
-  for (const [x, y, w, h] of found) pen.rect(px(place, x), py(place, y), Math.max(least, w * scale),
+  for (const [x, y, w, h] of found) pen.rect(pixelX(place, x), pixelY(place, y), Math.max(least, w * scale),
       Math.max(least, h * scale));
   pen.fill();
 }
@@ -163,19 +163,19 @@ function paintBallsAndHoles(place, cellsUnlikeMirrors, mirrors) {
   for (const key of cellsUnlikeMirrors) {
     const x = numbering.xOf(key), y = numbering.yOf(key);
     if (!isCellSeen(place, x, y)) continue;
-    if (mirrors.has(key)) pen.fillRect(px(place, x), py(place, y), Math.max(1, scale), Math.max(1, scale));
+    if (mirrors.has(key)) pen.fillRect(pixelX(place, x), pixelY(place, y), Math.max(1, scale), Math.max(1, scale));
     else balls.push(x, y);
   }
   paintBalls(place, balls);
 }
 
 /** Draws the live cells that can be seen: mirrors, and a disc or a dot for each ball. */
-function paintCells(place, live, mirrors) {
+function paintLiveCells(place, live, mirrors) {
   const { pen, scale, inks } = place, { bars: found, balls } = seenLiveCells(place, live, mirrors);
   pen.fillStyle = inks.mirror;
   pen.beginPath();
   // Half a pixel more, so that no seam shows between the parts of one mirror.
-  for (const [x, y, w, h] of found) pen.rect(px(place, x), py(place, y), Math.max(1.5, w * scale + 0.5),
+  for (const [x, y, w, h] of found) pen.rect(pixelX(place, x), pixelY(place, y), Math.max(1.5, w * scale + 0.5),
       Math.max(1.5, h * scale + 0.5));
   pen.fill();
   paintBalls(place, balls);
@@ -184,14 +184,14 @@ function paintCells(place, live, mirrors) {
 /** Draws balls, given as x, y, x, y… */
 function paintBalls(place, balls) {
   const { pen, scale } = place, radius = scale * 0.36, side = Math.max(scale < 1 ? 2.5 : 1.5, scale);
-  if (scale < 3 && isMany(pen, balls.length / 2)) {
+  if (scale < 3 && needsPixelDrawing(pen, balls.length / 2)) {
     paintSquares(place, balls, place.inks.ball, { side });
     return;
   }
   pen.fillStyle = place.inks.ball;
   pen.beginPath();
   for (let index = 0; index < balls.length; index += 2) {
-    const x = px(place, balls[index]), y = py(place, balls[index + 1]);
+    const x = pixelX(place, balls[index]), y = pixelY(place, balls[index + 1]);
     if (scale < 3) {
       pen.rect(x, y, side, side);
       continue;
@@ -214,8 +214,8 @@ function paintTrails(place, steps, cellsOf) {
       const x = cellsOf.xOf(moves[index]), y = cellsOf.yOf(moves[index]), u = cellsOf.xOf(moves[index + 1]);
       const v = cellsOf.yOf(moves[index + 1]);
       if (!isCellSeen(place, x, y) && !isCellSeen(place, u, v)) continue;
-      pen.moveTo(px(place, x + 0.5), py(place, y + 0.5));
-      pen.lineTo(px(place, u + 0.5), py(place, v + 0.5));
+      pen.moveTo(pixelX(place, x + 0.5), pixelY(place, y + 0.5));
+      pen.lineTo(pixelX(place, u + 0.5), pixelY(place, v + 0.5));
     }
     pen.stroke();
   });
@@ -263,13 +263,14 @@ const nearMirrorsByLayout = new WeakMap();
 function mirrorsNearPorts(layout) {
   if (layout.mirrors.length <= MANY_PORTS) return layout.mirrors;
   if (!nearMirrorsByLayout.has(layout)) {
-    const filed = new Buckets(), near = new Set();
+    const filed = new SquareIndex(), near = new Set();
     for (const box of layout.mirrors) filed.addBox(...box);
     for (const { cell: [x, y] } of [...layout.ins, ...layout.outs]) {
-      filed.visit([x - PORT_MARGIN, y - PORT_MARGIN, x + PORT_MARGIN, y + PORT_MARGIN], (number) => {
+      const range = [x - PORT_MARGIN_CELLS, y - PORT_MARGIN_CELLS, x + PORT_MARGIN_CELLS, y + PORT_MARGIN_CELLS];
+      filed.visitRange(range, (number) => {
         const [u, v, w, h] = layout.mirrors[number];
-        if (u <= x + PORT_MARGIN && u + w >= x - PORT_MARGIN && v <= y + PORT_MARGIN
-            && v + h >= y - PORT_MARGIN) near.add(layout.mirrors[number]);
+        if (u <= x + PORT_MARGIN_CELLS && u + w >= x - PORT_MARGIN_CELLS && v <= y + PORT_MARGIN_CELLS
+            && v + h >= y - PORT_MARGIN_CELLS) near.add(layout.mirrors[number]);
       });
     }
     nearMirrorsByLayout.set(layout, [...near]);
@@ -284,7 +285,7 @@ function mirrorsNearPorts(layout) {
  * @param {Port[]} others other ports near them
  * @param {(x: number, y: number, w: number, h: number) => boolean} isNear whether a rectangle of cells is near them
  */
-function placesOf(place, layout, size, { found, others, isNear }) {
+function portNamePlaces(place, layout, size, { found, others, isNear }) {
   const side = place.scale;
   const rect = ([x, y], w = 1, h = 1) => ({ x: x * side, y: y * side, width: w * side, height: h * side });
   // The outline of an output is up to three pixels outside its cell.
@@ -296,14 +297,15 @@ function placesOf(place, layout, size, { found, others, isNear }) {
     width: place.pen.measureText(isIn ? name : `✓ ${name}`).width + 4 }));
   const signs = [...layout.wastes, ...layout.balls].filter(([x, y]) => isNear(x, y, 1, 1)).map((cell) => rect(cell))
     .concat(mirrorsNearPorts(layout).filter((box) => isNear(...box)).map(([x, y, w, h]) => rect([x, y], w, h)));
-  return placeNames(names, signs, others.map(({ cell }) => port(cell)));
+  return chooseNamePlaces(names, signs, others.map(({ cell }) => port(cell)));
 }
 
 /** Returns the ports that are named in a square, the other ports near it, and what is near it. */
-function portsIn(ports, [x0, y0, x1, y1]) {
-  const found = [], others = [], isNear = (x, y, w, h) => x <= x1 + PORT_MARGIN && y <= y1 + PORT_MARGIN
-    && x + w >= x0 - PORT_MARGIN && y + h >= y0 - PORT_MARGIN;
-  visitPorts(ports, [x0 - PORT_MARGIN, y0 - PORT_MARGIN, x1 + PORT_MARGIN, y1 + PORT_MARGIN], (number, [x, y]) => {
+function portsInSquare(ports, [x0, y0, x1, y1]) {
+  const found = [], others = [], isNear = (x, y, w, h) => x <= x1 + PORT_MARGIN_CELLS && y <= y1 + PORT_MARGIN_CELLS
+    && x + w >= x0 - PORT_MARGIN_CELLS && y + h >= y0 - PORT_MARGIN_CELLS;
+  const range = [x0 - PORT_MARGIN_CELLS, y0 - PORT_MARGIN_CELLS, x1 + PORT_MARGIN_CELLS, y1 + PORT_MARGIN_CELLS];
+  visitPorts(ports, range, (number, [x, y]) => {
     if (x >= x0 && y >= y0 && x <= x1 && y <= y1) found.push(ports[number]);
     else if (isNear(x, y, 1, 1)) others.push(ports[number]);
   });
@@ -315,7 +317,7 @@ function portsIn(ports, [x0, y0, x1, y1]) {
  * by square: to place all of 61,440 would take a second at each scale.
  * @returns {{port: Port, at: NamePlace}[]}
  */
-function placedNames(place, layout, size) {
+function placedPortNames(place, layout, size) {
   const ports = namedPorts(layout), isWhole = ports.length <= MANY_PORTS;
   const squares = isWhole ? [[]] : squaresInRange(seenRange(place, layout));
   if (placed.layout !== layout || placed.scale !== place.scale) placed = { layout, scale: place.scale,
@@ -323,8 +325,8 @@ function placedNames(place, layout, size) {
   return squares.flatMap((square) => {
     const key = String(square);
     if (!placed.squares.has(key)) {
-      const named = isWhole ? { found: ports, others: [], isNear: () => true } : portsIn(ports, square);
-      const places = placesOf(place, layout, size, named);
+      const named = isWhole ? { found: ports, others: [], isNear: () => true } : portsInSquare(ports, square);
+      const places = portNamePlaces(place, layout, size, named);
       placed.squares.set(key, named.found.map((port, index) => ({ port, at: places[index] })));
     }
     return placed.squares.get(key);
@@ -334,7 +336,7 @@ function placedNames(place, layout, size) {
 /** Draws a line from the place of a name to its cell, if it is away from it. */
 function paintLeader(place, { box, away }, cell, ink) {
   if (away === 0) return;
-  const { pen } = place, left = px(place, 0), top = py(place, 0), x = (cell[0] + 0.5) * place.scale;
+  const { pen } = place, left = pixelX(place, 0), top = pixelY(place, 0), x = (cell[0] + 0.5) * place.scale;
   const y = (cell[1] + 0.5) * place.scale;
   pen.strokeStyle = ink;
   pen.lineWidth = 1;
@@ -375,10 +377,10 @@ function paintPorts(place, layout, good) {
  * in.
  */
 function paintPortNames(place, layout, good) {
-  const { pen, inks, scale } = place, size = Math.max(9, Math.min(14, scale * 0.8)), left = px(place, 0);
-  const top = py(place, 0);
+  const { pen, inks, scale } = place, size = Math.max(9, Math.min(14, scale * 0.8)), left = pixelX(place, 0);
+  const top = pixelY(place, 0);
   pen.font = `600 ${size}px system-ui, sans-serif`;
-  const shown = placedNames(place, layout, size)
+  const shown = placedPortNames(place, layout, size)
     .filter(({ port: { cell }, at }) => isCellSeen(place, ...cell) && at.away <= MAX_LINES_AWAY)
     .map(({ port, at }) => ({ ...port, at,
       ...outputLook(inks, port.isIn || !good ? undefined : good.get(String(port.cell))) }));
@@ -397,17 +399,17 @@ function paintCrosses(place, found, ink = place.inks.soft) {
   pen.lineWidth = 1.5;
   pen.beginPath();
   for (const [x, y] of found.filter(([u, v]) => isCellSeen(place, u, v))) {
-    pen.moveTo(px(place, x + 0.2), py(place, y + 0.2));
-    pen.lineTo(px(place, x + 0.8), py(place, y + 0.8));
-    pen.moveTo(px(place, x + 0.8), py(place, y + 0.2));
-    pen.lineTo(px(place, x + 0.2), py(place, y + 0.8));
+    pen.moveTo(pixelX(place, x + 0.2), pixelY(place, y + 0.2));
+    pen.lineTo(pixelX(place, x + 0.8), pixelY(place, y + 0.8));
+    pen.moveTo(pixelX(place, x + 0.8), pixelY(place, y + 0.2));
+    pen.lineTo(pixelX(place, x + 0.2), pixelY(place, y + 0.8));
   }
   pen.stroke();
 }
 
 /** Returns the numbers of the modules whose borders can be seen. */
 function seenModuleNumbers(place, found) {
-  if (found.length > FEW_MODULES && maxShortSide(found) * place.scale < CLOSE_BORDERS) return [];
+  if (found.length > FEW_MODULES && maxModuleShortSide(found) * place.scale < CLOSE_BORDERS) return [];
   const [x0, y0, x1, y1] = [place.left, place.top, place.left + place.wide / place.scale,
     place.top + place.high / place.scale], numbers = [];
   const least = found.length > FEW_MODULES ? CLOSE_BORDERS / place.scale : 0;
@@ -430,47 +432,48 @@ function paintModules(place, found, chosen) {
   pen.beginPath();
   for (const number of shown) {
     const [x, y, w, h] = found[number].box;
-    pen.rect(px(place, x), py(place, y), w * scale, h * scale);
+    pen.rect(pixelX(place, x), pixelY(place, y), w * scale, h * scale);
   }
   pen.stroke();
   pen.setLineDash([]);
-  if (chosen !== null && found[chosen]) paintOutline(
+  if (chosen !== null && found[chosen]) paintBoxOutline(
     place, found[chosen].box, inks.box, scale < 4 ? [] : [6, 4], 0, 2.5);
   for (const number of shown) {
     const [x, y, w] = found[number].box;
-    if (w * scale > 26) paintLabel(place, String(number), px(place, x) + 5, py(place, y) + 14, inks.box, "left");
+    if (w * scale > 26) paintLabel(place, String(number), pixelX(place, x) + 5, pixelY(place, y) + 14, inks.box,
+      "left");
   }
 }
 
 /** Draws the cells of lines of the certificate, with a letter for the kind and the wire where there is room. */
 function paintCertificateLines(place, found) {
   const { pen, inks, scale } = place, offsets = { edge: 2, halo: 4, stop: 6 };
-  if (scale < LINES_SCALE) return;
+  if (scale < MIN_CERTIFICATE_LINES_SCALE) return;
   pen.font = "600 10px ui-monospace, monospace";
   for (const { kind, x, y, signal } of found) {
     if (!isCellSeen(place, x, y)) continue;
-    paintOutline(place, [x, y, 1, 1], inks[kind], kind === "halo" ? [2, 2] : [], Math.min(offsets[kind], scale / 4),
+    paintBoxOutline(place, [x, y, 1, 1], inks[kind], kind === "halo" ? [2, 2] : [], Math.min(offsets[kind], scale / 4),
       kind === "stop" ? 2.5 : 1.5);
-    const bottom = py(place, y) + (kind === "edge" ? 11 : scale - 4);
+    const bottom = pixelY(place, y) + (kind === "edge" ? 11 : scale - 4);
     if (scale >= 22 && kind !== "halo") paintLabel(
-      place, `${LINE_LETTERS[kind]} ${signal}`, px(place, x) + 2, bottom, inks[kind], "left");
+      place, `${LINE_LETTERS[kind]} ${signal}`, pixelX(place, x) + 2, bottom, inks[kind], "left");
   }
 }
 
 /** Draws a circle about a cell. */
-function paintCircle(place, [x, y], ink = place.inks.bad) {
+function paintCellCircle(place, [x, y], ink = place.inks.bad) {
   const { pen } = place;
   pen.strokeStyle = ink;
   pen.lineWidth = 3;
   pen.beginPath();
-  pen.arc(px(place, x + 0.5), py(place, y + 0.5), Math.max(9, place.scale * 0.85), 0, 2 * Math.PI);
+  pen.arc(pixelX(place, x + 0.5), pixelY(place, y + 0.5), Math.max(9, place.scale * 0.85), 0, 2 * Math.PI);
   pen.stroke();
 }
 
 /** Marks cells that differ: a cross where only this run has the cell live, an empty square where only the other has. */
-function markDifferences(place, more, less) {
-  for (const cell of less) paintOutline(place, [...cell, 1, 1], place.inks.bad, [], 2, 2.5);
-  for (const cell of more) paintOutline(place, [...cell, 1, 1], place.inks.bad, [], 0, 2.5);
+function paintDifferences(place, more, less) {
+  for (const cell of less) paintBoxOutline(place, [...cell, 1, 1], place.inks.bad, [], 2, 2.5);
+  for (const cell of more) paintBoxOutline(place, [...cell, 1, 1], place.inks.bad, [], 0, 2.5);
   paintCrosses(place, more, place.inks.bad);
 }
 
@@ -497,15 +500,15 @@ function rulerStep(scale, distance) {
 function paintRulers(place, { width, height }, pointed) {
   const { pen, inks, wide, high, scale } = place;
   pen.fillStyle = inks.paper;
-  pen.fillRect(0, 0, wide, RULER.high);
-  pen.fillRect(0, 0, RULER.wide, high);
+  pen.fillRect(0, 0, wide, RULER_SIZE.high);
+  pen.fillRect(0, 0, RULER_SIZE.wide, high);
   pen.strokeStyle = inks.border;
   pen.lineWidth = 1;
   pen.beginPath();
-  pen.moveTo(0, RULER.high + 0.5);
-  pen.lineTo(wide, RULER.high + 0.5);
-  pen.moveTo(RULER.wide + 0.5, 0);
-  pen.lineTo(RULER.wide + 0.5, high);
+  pen.moveTo(0, RULER_SIZE.high + 0.5);
+  pen.lineTo(wide, RULER_SIZE.high + 0.5);
+  pen.moveTo(RULER_SIZE.wide + 0.5, 0);
+  pen.lineTo(RULER_SIZE.wide + 0.5, high);
   pen.stroke();
   pen.font = "11px system-ui, sans-serif";
   const [x0, y0, x1, y1] = seenRange(place, { width, height });
@@ -516,11 +519,11 @@ function paintRulers(place, { width, height }, pointed) {
     return found;
   };
   const columns = numbers(x0, x1, width, 30), rows = numbers(y0, y1, height, 18);
-  const column = (x, isPointed) => { if (px(place, x + 0.5) > RULER.wide + 8) paintRulerNumber(
-    place, x, px(place, x + 0.5), RULER.high - 5, isPointed); };
-  const isWhole = (y) => py(place, y + 0.5) > RULER.high + 6 && py(place, y + 0.5) < high - 6;
-  const row = (y, isPointed) => { if (isWhole(y)) paintRulerNumber(place, y, RULER.wide / 2, py(place, y + 0.5) + 4,
-    isPointed); };
+  const column = (x, isPointed) => { if (pixelX(place, x + 0.5) > RULER_SIZE.wide + 8) paintRulerNumber(
+    place, x, pixelX(place, x + 0.5), RULER_SIZE.high - 5, isPointed); };
+  const isWhole = (y) => pixelY(place, y + 0.5) > RULER_SIZE.high + 6 && pixelY(place, y + 0.5) < high - 6;
+  const row = (y, isPointed) => { if (isWhole(y)) paintRulerNumber(place, y, RULER_SIZE.wide / 2,
+    pixelY(place, y + 0.5) + 4, isPointed); };
   // A number that the plate of the pointed cell would cover in part is left out.
   const isFree = (number, at, distance) => at === undefined || Math.abs(number - at) * scale >= distance;
   columns.filter((x) => isFree(x, pointed?.[0], 28)).forEach((x) => column(x, false));
@@ -544,23 +547,23 @@ function paintScene(place, shown) {
   const { ways = null, still = null, cellsUnlikeMirrors = null, over = null } = shown;
   const box = [0, 0, layout.width, layout.height], hasTiles = still !== null && place.scale < TILES_BELOW_SCALE;
   paintBlockGrid(place, box, odd);
-  paintOutline(place, box, place.inks.soft, [], 0, 1.5);
+  paintBoxOutline(place, box, place.inks.soft, [], 0, 1.5);
   if (hasTiles) still(place);
   else if (ways) ways(place, seenRange(place, layout));
   paintTrails(place, trail, live.numbering);
   if (hasTiles) paintBallsAndHoles(place, cellsUnlikeMirrors(), mirrors);
-  else paintCells(place, live, mirrors);
+  else paintLiveCells(place, live, mirrors);
   if (over) over(place);
   paintModules(place, boxes, chosen);
   paintCertificateLines(place, said);
-  if (fault) paintCircle(place, fault);
-  if (mark) paintCircle(place, mark, place.inks.box);
+  if (fault) paintCellCircle(place, fault);
+  if (mark) paintCellCircle(place, mark, place.inks.box);
   paintPorts(place, layout, good);
   paintRulers(place, layout, pointed);
 }
 
 export {
-  clearedPlace, inksNow, paintScene, paintOutline, paintBlockGrid, paintCells, paintPorts, paintModules,
-  paintCertificateLines, paintCircle, markDifferences, paintRulers, rulerStep, paintTrails, paintMirrors, wireInks,
-  seenRange, RULER, LINES_SCALE,
+  clearCanvasForPainting, inksNow, paintScene, paintBoxOutline, paintBlockGrid, paintLiveCells, paintPorts,
+  paintModules, paintCertificateLines, paintCellCircle, paintDifferences, paintRulers, rulerStep, paintTrails,
+  paintMirrors, wireInks, seenRange, RULER_SIZE, MIN_CERTIFICATE_LINES_SCALE,
 };

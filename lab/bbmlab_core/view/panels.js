@@ -1,5 +1,5 @@
 /** Fills the panels beside the picture: inputs, outputs, the report, the lines of the certificate. */
-import { element, fillBox, inputSwitch, newElement } from "./boxes.js";
+import { elementById, fillBox, inputSwitch, newElement } from "./boxes.js";
 import { countWithNoun } from "./stage.js";
 
 const MAX_LINES_SHOWN = 200;
@@ -22,7 +22,7 @@ function actionLink(text, action) {
  * @param {string} text
  * @param {{lines: Map<string, () => void>, cell: (x: number, y: number) => void}} actions
  */
-function appendWords(parent, text, { lines, cell }) {
+function appendTextWithLinks(parent, text, { lines, cell }) {
   text.split("`").forEach((part, index) => {
     if (index % 2 === 0) appendCellLinks(parent, part, cell);
     else if (lines.has(part)) {
@@ -43,15 +43,15 @@ function appendCellLinks(parent, text, action) {
 }
 
 /** Makes a switch for each input. */
-function makeInputs(player) {
-  fillBox(element("inputs"), player.names, (name) => inputSwitch(name, player.on.has(name), (isOn) => {
+function fillInputSwitches(player) {
+  fillBox(elementById("inputs"), player.names, (name) => inputSwitch(name, player.on.has(name), (isOn) => {
     player.setInputs({ [name]: isOn });
     player.restart();
   }));
-  if (player.names.length === 0) element("inputs").textContent = "The layout has no inputs.";
-  element("choices").hidden = player.names.length < 2;
+  if (player.names.length === 0) elementById("inputs").textContent = "The layout has no inputs.";
+  elementById("choices").hidden = player.names.length < 2;
   for (const [id, value] of [["all", true], ["none", false]]) {
-    element(id).addEventListener("click", () => {
+    elementById(id).addEventListener("click", () => {
       player.setInputs(Object.fromEntries(player.names.map((name) => [name, value])));
       player.restart();
     });
@@ -62,7 +62,7 @@ function makeInputs(player) {
 
 /** Says how many outputs differ. */
 function outputSummary(player) {
-  const results = player.results();
+  const results = player.outputResults();
   if (!player.values) return "The text has no circuit to compare with.";
   if (!results) return `Running to the last time: ${player.ahead.time} of ${player.layout.steps}.`;
   const count = results.filter((result) => !result.isGood).length;
@@ -81,12 +81,12 @@ function wrongOutputWords(player, { wanted, cells }) {
 }
 
 /** Shows the outputs at the last time, those that differ first. `cell` is what a click on a cell does. */
-function showResults(player, cell) {
-  const results = player.results() || [], text = outputSummary(player);
+function showOutputs(player, cell) {
+  const results = player.outputResults() || [], text = outputSummary(player);
   const isBad = results.some((result) => !result.isGood);
-  element("outputs-count").textContent = text;
-  element("outputs-count").className = isBad ? "bad" : results.length ? "good" : "";
-  fillBox(element("outputs"), results, (result) => {
+  elementById("outputs-count").textContent = text;
+  elementById("outputs-count").className = isBad ? "bad" : results.length ? "good" : "";
+  fillBox(elementById("outputs"), results, (result) => {
     const label = newElement("span",
       `${result.isGood ? "✓" : "✗"} ${result.name}=${result.wanted === undefined ? "?" : Number(result.wanted)}`);
     label.className = result.isGood ? "good" : "bad";
@@ -97,8 +97,8 @@ function showResults(player, cell) {
 
 /** Lists the lines of the present time with the values that their wires have in the circuit. */
 function showCertificateLinesNow(player, module) {
-  element("lines-box").hidden = player.modules.length === 0;
-  const found = player.linesNow(module);
+  elementById("lines-box").hidden = player.modules.length === 0;
+  const found = player.certificateLinesNow(module);
   const shown = found.slice(0, MAX_LINES_SHOWN).map(({ kind, number, time, x, y, signal }) => {
     const place = kind === "stop" ? `${time} ${signal} ${x} ${y}` : `${time === null ? "*" : time} ${x} ${y} ${signal}`;
     const value = player.valueOf(signal);
@@ -108,13 +108,13 @@ function showCertificateLinesNow(player, module) {
     return item;
   });
   if (found.length > shown.length) shown.push(newElement("li", `and ${found.length - shown.length} more`));
-  element("lines").replaceChildren(...(shown.length ? shown : [newElement("li", "No line speaks of this time.")]));
+  elementById("lines").replaceChildren(...(shown.length ? shown : [newElement("li", "No line speaks of this time.")]));
 }
 
 /** Shows the verdict, and returns whether there is a report. */
 function showVerdict(explanation, hasCertificate) {
-  const verdict = element("verdict");
-  element("faults").hidden = !explanation || !explanation.entries.some((entry) => entry.is_against);
+  const verdict = elementById("verdict");
+  elementById("faults").hidden = !explanation || !explanation.entries.some((entry) => entry.is_against);
   if (explanation) {
     const isGood = explanation.verdict === "yes";
     verdict.textContent = `${isGood ? "✓" : "✗"} ${explanation.headline[0]}`;
@@ -123,7 +123,7 @@ function showVerdict(explanation, hasCertificate) {
   }
   verdict.textContent = hasCertificate ? "No verdict: the program was not run."
     : "No verdict: the text has no certificate.";
-  element("report").textContent = "There is no report.";
+  elementById("report").textContent = "There is no report.";
   return false;
 }
 
@@ -132,7 +132,7 @@ function showReportIntro(explanation, actions) {
   const { headline, fix, tried } = explanation;
   const words = [...headline.slice(1), ...(fix && fix.words.length ? [`Fix: ${fix.words.join(" ")}`] : []),
     ...(fix ? fix.others : []).map((other) => `Or: ${other.join(" ")}`), ...tried];
-  element("report").append(...words.map((text) => appendWords(newElement("p", ""), text, actions)));
+  elementById("report").append(...words.map((text) => appendTextWithLinks(newElement("p", ""), text, actions)));
 }
 
 /**
@@ -153,18 +153,20 @@ function showReport(explanation, show, cell) {
     button.setAttribute("aria-pressed", "false");
     button.addEventListener("click", () => show(number));
     const words = own && own !== fix ? [...entry.what, `Fix: ${own}`] : entry.what;
-    element("report").append(button, ...words.map((text) => appendWords(newElement("p", ""), text, actions)));
+    elementById("report").append(button, ...words.map((text) => appendTextWithLinks(newElement("p", ""), text,
+      actions)));
     return button;
   });
 }
 
 /** Says what the signs of the picture mean. */
-function showSigns(hasModules) {
+function showPictureLegend(hasModules) {
   const signs = ["● a ball, ■ a mirror, × waste", "→name an input, name→ an output (✓ or ✗ at the last time)"];
   if (hasModules) signs.push("dashed boxes: modules with their numbers",
       "E edge, S stop with their wires; dotted: halo");
   signs.push("waveform: high while the cell is live; ● as its wire at that time, ✗ not so, ○ not known");
-  element("signs").replaceChildren(...signs.map((text) => newElement("li", text)));
+  elementById("signs").replaceChildren(...signs.map((text) => newElement("li", text)));
 }
 
-export { element, makeInputs, outputSummary, showResults, showCertificateLinesNow, showVerdict, showReport, showSigns };
+export { elementById, fillInputSwitches, outputSummary, showOutputs, showCertificateLinesNow, showVerdict, showReport,
+  showPictureLegend };

@@ -4,13 +4,13 @@ import * as waveform from "./waveform.js";
 
 // How long the runs may take before the page gets its turn, in milliseconds. `slice` of a player sets another time for
 // the run to the end.
-const AHEAD_SLICE = 25, SEEK_SLICE = 40;
+const AHEAD_SLICE_MILLISECONDS = 25, SEEK_SLICE = 40;
 // The moves of so many steps before the time to which a run goes are noted on the way: their trail needs no other run
 // then.
-const NOTED_STEPS = 32;
+const NOTED_MOVE_STEPS = 32;
 
 /** Adds a line to those of a time. */
-function addLine(found, time, line) {
+function addLineAtTime(found, time, line) {
   if (!found.has(time)) found.set(time, []);
   found.get(time).push(line);
 }
@@ -20,7 +20,7 @@ function bordersByTime(modules) {
   const found = new Map();
   modules.forEach((module, number) => {
     for (const [kind, lines] of [["edge", module.edges], ["halo", module.halos]]) {
-      for (const [time, x, y, signal] of lines) addLine(found, time === null ? "*" : time,
+      for (const [time, x, y, signal] of lines) addLineAtTime(found, time === null ? "*" : time,
           { kind, number, time, x, y, signal });
     }
   });
@@ -31,7 +31,8 @@ function bordersByTime(modules) {
 function stopsByTime(modules) {
   const found = new Map();
   modules.forEach((module, number) => {
-    for (const [time, signal, x, y] of module.stops) addLine(found, time, { kind: "stop", number, time, x, y, signal });
+    for (const [time, signal, x, y] of module.stops) addLineAtTime(found, time, { kind: "stop", number, time, x, y,
+      signal });
   });
   return found;
 }
@@ -43,7 +44,7 @@ class Player {
   direction = 0;
   rate = 8;
   target = 0;
-  slice = AHEAD_SLICE;
+  slice = AHEAD_SLICE_MILLISECONDS;
   names;
   first;
   on;
@@ -74,7 +75,7 @@ class Player {
     this.first = assign ? assign.on : this.names;
     this.on = new Set(this.first);
     // `data.isQuiet` says that nobody looks at the waveform.
-    this.probes = data.isQuiet ? [] : waveform.probesOf(data);
+    this.probes = data.isQuiet ? [] : waveform.waveformProbes(data);
     this.stops = stopsByTime(this.modules);
     this.own = null;
     this.listeners = { time: [], progress: [], end: [], play: [], inputs: [] };
@@ -95,7 +96,7 @@ class Player {
     this.run = new WholeRun(layout, on);
     // The snapshots are shared.
     this.ahead = this.run.copy();
-    this.recorder = new waveform.Recorder(this.probes, this.ahead);
+    this.recorder = new waveform.SignalRecorder(this.probes, this.ahead);
     this.isEnded = false;
     clearTimeout(this.aheadTimer);
     this.seek(time);
@@ -107,8 +108,8 @@ class Player {
     const until = performance.now() + this.slice, { ahead, recorder } = this;
     let moved = true;
     for (let count = 1; moved && (count % 16 || performance.now() < until); count += 1) {
-      moved = ahead.forward();
-      if (moved) recorder.note(ahead);
+      moved = ahead.stepForward();
+      if (moved) recorder.noteStep(ahead);
     }
     if (moved) {
       this.notify("progress");
@@ -122,7 +123,7 @@ class Player {
 
   /** Stops, and goes to a time. */
   stopAndSeek(time) {
-    this.play(0);
+    this.setPlayDirection(0);
     this.seek(time);
   }
 
@@ -140,10 +141,10 @@ class Player {
     let moved = true;
     for (let count = 1; moved && run.time !== target && (count % 16 || performance.now() < until); count += 1) {
       const isForward = run.time < target;
-      moved = isForward ? run.forward() : run.backward();
-      if (!moved || !isForward || target - run.time > NOTED_STEPS) continue;
+      moved = isForward ? run.stepForward() : run.stepBackward();
+      if (!moved || !isForward || target - run.time > NOTED_MOVE_STEPS) continue;
       run.moves.set(run.time - 1, movesOfLastStep(run));
-      run.moves.delete(run.time - 1 - 3 * NOTED_STEPS);
+      run.moves.delete(run.time - 1 - 3 * NOTED_MOVE_STEPS);
     }
     this.isSeeking = moved && run.time !== target;
     if (this.isSeeking) this.seekTimer = setTimeout(() => {
@@ -162,7 +163,7 @@ class Player {
   }
 
   /** Begins to play on (1) or backwards (-1), from the other end if it is at the end; or stops (0). */
-  play(direction) {
+  setPlayDirection(direction) {
     const wasPlaying = this.direction !== 0;
     this.direction = direction;
     cancelAnimationFrame(this.playFrame);
@@ -182,7 +183,7 @@ class Player {
       this.playedAt = now - this.playedAt > 500 ? now : this.playedAt + count / rate * 1000;
       this.seek(this.run.time + this.direction * Math.min(count, Math.max(1, Math.ceil(rate / 2))));
       if (!this.isSeeking && this.isAtBound(this.direction)) {
-        this.play(0);
+        this.setPlayDirection(0);
         return;
       }
     }
@@ -214,7 +215,7 @@ class Player {
   }
 
   /** Returns the lines that speak of the present time, those of a module first. */
-  linesNow(module) {
+  certificateLinesNow(module) {
     const time = this.run.time, found = [...(this.stops.get(time) || []), ...this.borderLinesNow()];
     if (module === null) return found;
     return [...found.filter((line) => line.number === module), ...found.filter((line) => line.number !== module)];
@@ -228,7 +229,7 @@ class Player {
    * @returns {?{name: string, wanted: ?boolean, isGood: boolean, cells: {cell: Cell, isLive: boolean, isGood:
    * boolean}[]}[]}
    */
-  results() {
+  outputResults() {
     if (!this.values || !this.isEnded) return null;
     const found = new Map(), isWhole = this.ahead.time === this.layout.steps;
     for (const { name, cell } of this.layout.outs) {

@@ -10,7 +10,7 @@ const MANY_SQUARES = 2000;
 let board = null;
 
 /** Whether a pen has pixels, and the squares are so many that they are drawn into these. */
-const isMany = (pen, count) => pen.canvas !== undefined && count > MANY_SQUARES;
+const needsPixelDrawing = (pen, count) => pen.canvas !== undefined && count > MANY_SQUARES;
 
 /** Returns the image for a canvas of a size. */
 function imageForCanvas({ width, height }) {
@@ -58,4 +58,4 @@ function paintSquares({ pen, scale, left, top }, cells, ink, { side, shift = 0, 
   pen.restore();
 }
 
-export { isMany, paintSquares };
+export { needsPixelDrawing, paintSquares };

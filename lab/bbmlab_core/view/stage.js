@@ -1,13 +1,13 @@
 /** Shows the runs of a player on canvases: the layout, a module by itself, and the waveform. */
 import * as address from "./address.js";
-import { mirrorsOf, lastMoves } from "./automaton.js";
+import { mirrorAndRestlessCells, lastMoves } from "./automaton.js";
 import * as painting from "./painting.js";
 import { SvgPen } from "./svg_pen.js";
-import { Buckets, changedIndexes, Tiles, visitModules, visitPorts } from "./tiles.js";
+import { SquareIndex, changedIndexes, Tiles, visitModules, visitPorts } from "./tiles.js";
 import * as waveform from "./waveform.js";
-import { Wires } from "./wires.js";
+import { WireWays } from "./wires.js";
 
-const { RULER } = painting;
+const { RULER_SIZE } = painting;
 // A trail has so many steps, and fewer if the balls are many: 24,000 moves take 15 ms of a frame to draw without a
 // graphics processor.
 const TRAIL_STEPS = 24, MAX_MOVES = 8000, FIT_SCALE = 60;
@@ -53,19 +53,19 @@ class Stage {
     this.layout = player.layout;
     // The ways of the balls, whether they are shown, and the wires that stand out: the one that was looked for, and the
     // one under the pointer.
-    this.wires = new Wires(player.data.ways, player.data.circuit);
-    this.takeMirrors();
+    this.wires = new WireWays(player.data.ways, player.data.circuit);
+    this.updateMirrors();
   }
 
   /**
    * Notes the cells of the layout's mirrors. Tiles of a layout of the same size are kept where its mirrors are the
    * same.
    */
-  takeMirrors() {
+  updateMirrors() {
     const { layout, tiles, boxes } = this;
-    this.mirrors = mirrorsOf(layout).cells;
+    this.mirrors = mirrorAndRestlessCells(layout).cells;
     this.boxes = layout.mirrors;
-    this.filedBoxes = new Buckets();
+    this.filedBoxes = new SquareIndex();
     for (const box of layout.mirrors) this.filedBoxes.addBox(...box);
     if (!tiles || tiles.width !== layout.width || tiles.height !== layout.height) {
       this.tiles = new Tiles(layout, (place, range) => this.drawTile(place, range));
@@ -74,7 +74,7 @@ class Stage {
     const { gone, added } = changedIndexes(boxes.flat(), layout.mirrors.flat(), 4);
     const fresh = added.map((at) => layout.mirrors[at / 4]);
     const filedOf = (list) => {
-      const filed = new Buckets();
+      const filed = new SquareIndex();
       for (const box of list) filed.addBox(...box);
       return filed;
     };
@@ -89,7 +89,7 @@ class Stage {
   /** Draws what is still in a range of cells: the ways, if they are shown, and the mirrors over them. */
   drawTile(place, range) {
     const found = [], shown = { ...place, inks: painting.inksNow() };
-    this.filedBoxes.visit(range, (number) => found.push(this.boxes[number]));
+    this.filedBoxes.visitRange(range, (number) => found.push(this.boxes[number]));
     this.drawWays(shown, range);
     painting.paintMirrors(shown, found, 1);
   }
@@ -112,7 +112,7 @@ class Stage {
   /** Returns the range of places that is seen: x, y, x, y. */
   seenRange() {
     const { wide, high } = this.viewSize();
-    const x = this.left + RULER.wide / this.scale, y = this.top + RULER.high / this.scale;
+    const x = this.left + RULER_SIZE.wide / this.scale, y = this.top + RULER_SIZE.high / this.scale;
     return [x, y, x + wide / this.scale, y + high / this.scale];
   }
 
@@ -124,9 +124,9 @@ class Stage {
   showWire(wire) {
     this.wire = wire;
     if (wire) {
-      const [x, y, w, h] = this.wires.boxOf(wire), { wide, high } = this.viewSize();
+      const [x, y, w, h] = this.wires.boxOfWire(wire), { wide, high } = this.viewSize();
       this.centreOn(x + w / 2, y + h / 2, Math.min(28, wide / (w + 8), high / (h + 8)));
-      this.noteMoved();
+      this.noteViewMoved();
     }
     this.requestPaint();
   }
@@ -134,27 +134,27 @@ class Stage {
   /** Returns the size of the picture without its rulers, in pixels. */
   viewSize() {
     const { clientWidth, clientHeight } = this.parts.whole;
-    return { wide: Math.max(1, clientWidth - RULER.wide), high: Math.max(1, clientHeight - RULER.high) };
+    return { wide: Math.max(1, clientWidth - RULER_SIZE.wide), high: Math.max(1, clientHeight - RULER_SIZE.high) };
   }
 
   /** Puts a place of the layout in the middle, at a scale in pixels for a cell. */
   centreOn(x, y, scale) {
     const { wide, high } = this.viewSize();
     this.scale = Math.max(address.MIN_SCALE, Math.min(address.MAX_SCALE, scale));
-    this.left = x - (RULER.wide + wide / 2) / this.scale;
-    this.top = y - (RULER.high + high / 2) / this.scale;
+    this.left = x - (RULER_SIZE.wide + wide / 2) / this.scale;
+    this.top = y - (RULER_SIZE.high + high / 2) / this.scale;
     this.requestPaint();
   }
 
   /** Returns the scale and the place in the middle. */
-  viewNow() {
+  scaleAndCentre() {
     const { wide, high } = this.viewSize();
-    return [this.scale, this.left + (RULER.wide + wide / 2) / this.scale,
-      this.top + (RULER.high + high / 2) / this.scale];
+    return [this.scale, this.left + (RULER_SIZE.wide + wide / 2) / this.scale,
+      this.top + (RULER_SIZE.high + high / 2) / this.scale];
   }
 
   /** Shows the whole layout. */
-  fit() {
+  fitWholeLayout() {
     const { width, height } = this.layout, { wide, high } = this.viewSize();
     this.isFit = true;
     this.centreOn(width / 2, height / 2, Math.min(FIT_SCALE, wide / (width + 1), high / (height + 1)));
@@ -166,18 +166,18 @@ class Stage {
     this.left += x / this.scale - x / scale;
     this.top += y / this.scale - y / scale;
     this.scale = scale;
-    this.noteMoved();
+    this.noteViewMoved();
   }
 
   /** Moves the picture by pixels. */
   pan(x, y) {
     this.left += x / this.scale;
     this.top += y / this.scale;
-    this.noteMoved();
+    this.noteViewMoved();
   }
 
   /** Notes where a finger or the mouse was put down. */
-  putFinger({ pointerId, offsetX, offsetY }) {
+  notePressedFinger({ pointerId, offsetX, offsetY }) {
     this.fingers.set(pointerId, [offsetX, offsetY]);
     this.parts.whole.setPointerCapture(pointerId);
   }
@@ -203,13 +203,13 @@ class Stage {
   }
 
   /** Zooms by the wheel, and draws again after changes of the window and of its colours, which `action` hears of. */
-  listen(action = () => {}) {
+  listenToWheelAndWindow(action = () => {}) {
     const { whole, waveBox } = this.parts;
     whole.addEventListener("wheel", (event) => {
       event.preventDefault();
       this.zoom(Math.exp(-Math.max(-100, Math.min(100, event.deltaY)) / 500), event.offsetX, event.offsetY);
     }, { passive: false });
-    new ResizeObserver(() => (this.isFit ? this.fit() : this.requestPaint())).observe(whole);
+    new ResizeObserver(() => (this.isFit ? this.fitWholeLayout() : this.requestPaint())).observe(whole);
     new ResizeObserver(() => this.paintWave()).observe(waveBox);
     matchMedia("(prefers-color-scheme: dark)").addEventListener("change", () => {
       this.redraw();
@@ -219,8 +219,8 @@ class Stage {
   }
 
   /** Takes the outputs at the run's end, or that there are none yet. */
-  takeResults() {
-    const results = this.player.results();
+  updateOutputStates() {
+    const results = this.player.outputResults();
     this.good = results
       && new Map(results.flatMap(({ cells }) => cells.map(({ cell, isGood }) => [String(cell), isGood])));
     this.requestPaint();
@@ -229,12 +229,12 @@ class Stage {
 
   /** Shows in an element what there is at a cell, if one is given. */
   showCellWords(element, cell) {
-    const words = cell ? this.wordsOf(cell) : "";
+    const words = cell ? this.cellWords(cell) : "";
     if (element.textContent !== words) element.textContent = words;
   }
 
   /** Notes that the picture is no longer fitted. */
-  noteMoved() {
+  noteViewMoved() {
     this.isFit = false;
     this.requestPaint();
     if (this.onMove) this.onMove();
@@ -242,22 +242,22 @@ class Stage {
 
   /** Shows a place closely enough to see cells: all of the layout if that does, else the box if one is given. */
   lookAt([x, y], box) {
-    this.fit();
+    this.fitWholeLayout();
     if (this.scale >= 12) return;
     const { wide, high } = this.viewSize(), side = box ? Math.max(box[2], box[3]) + 8 : 24;
     this.centreOn(x, y, Math.max(this.scale, Math.min(28, Math.max(8, Math.min(wide, high) / side))));
-    this.noteMoved();
+    this.noteViewMoved();
   }
 
   /** Returns the cell at a place of the canvas, or null beside the layout. @returns {?Cell} */
   cellAt(x, y) {
     const cell = [Math.floor(this.left + x / this.scale), Math.floor(this.top + y / this.scale)];
     const isInside = cell[0] >= 0 && cell[1] >= 0 && cell[0] < this.layout.width && cell[1] < this.layout.height;
-    return isInside && x >= RULER.wide && y >= RULER.high ? cell : null;
+    return isInside && x >= RULER_SIZE.wide && y >= RULER_SIZE.high ? cell : null;
   }
 
   /** Says what there is at a cell now: "(99, 82): ball, in p, module 3". */
-  wordsOf([x, y]) {
+  cellWords([x, y]) {
     const { layout, mirrors, player } = this, key = mirrors.numbering.keyOf(x, y), words = [];
     const isLive = player.run.live.has(key);
     if (mirrors.has(key)) words.push(isLive ? "mirror" : "dead mirror cell");
@@ -282,7 +282,7 @@ class Stage {
       this.frame = null;
       if (this.onPaint) this.onPaint();
       this.isWhole = true;
-      this.paintWhole(painting.clearedPlace(this.parts.whole, this.scale, this.left, this.top));
+      this.paintWhole(painting.clearCanvasForPainting(this.parts.whole, this.scale, this.left, this.top));
       if (this.player.own) this.paintModuleRun();
       if (this.onPainted) this.onPainted();
       // Tiles for which there was no time come with the next frames.
@@ -306,16 +306,16 @@ class Stage {
     const wire = this.pointedWire || this.wire;
     painting.paintScene(place, { layout, modules, live: run.live, mirrors, odd: run.time % 2, trail: this.trailMoves(),
       chosen: module,
-      lines: place.scale < painting.LINES_SCALE ? [] : this.player.linesNow(module), fault, mark,
-      good: run.time === layout.steps ? this.good : null, pointed,
+      lines: place.scale < painting.MIN_CERTIFICATE_LINES_SCALE ? [] : this.player.certificateLinesNow(module), fault,
+      mark, good: run.time === layout.steps ? this.good : null, pointed,
       ways: (where, range) => this.drawWays(where, range), still: place.pen instanceof SvgPen ? null
         : (where) => this.drawStill(where),
       cellsUnlikeMirrors: () => run.cellsUnlikeMirrors(),
-      over: wire ? (where) => this.wires.drawInFront(where, wire) : null });
+      over: wire ? (where) => this.wires.drawWireInFront(where, wire) : null });
   }
 
   /** Draws what is still from tiles. */
-  drawStill(place) { if (!this.tiles.paint(place, window.devicePixelRatio || 1)) this.isWhole = false; }
+  drawStill(place) { if (!this.tiles.paintShownTiles(place, window.devicePixelRatio || 1)) this.isWhole = false; }
 
   /** Returns what is seen as the text of an SVG file. */
   svgText(title) {
@@ -327,13 +327,13 @@ class Stage {
     const pen = new SvgPen(clientWidth, clientHeight, measure), inks = painting.inksNow();
     this.paintWhole({ pen, scale: this.scale, left: this.left, top: this.top, wide: clientWidth, high: clientHeight,
       inks }, null);
-    return pen.text(inks.plane, title);
+    return pen.svgDocument(inks.plane, title);
   }
 
   /** Calls an action with what is seen as a PNG file. */
   makePng(action) {
     const { whole } = this.parts, canvas = document.createElement("canvas");
-    this.paintWhole(painting.clearedPlace(whole, this.scale, this.left, this.top), null);
+    this.paintWhole(painting.clearCanvasForPainting(whole, this.scale, this.left, this.top), null);
     canvas.width = whole.width;
     canvas.height = whole.height;
     const pen = canvas.getContext("2d");
@@ -349,15 +349,16 @@ class Stage {
     const canvas = this.parts.own, { own, run } = this.player, [x, y, w, h] = own.module.box;
     const { clientWidth, clientHeight } = canvas;
     const scale = Math.min(48, clientWidth / (w + 4), clientHeight / (h + 4));
-    const place = painting.clearedPlace(canvas, scale, x + w / 2 - clientWidth / scale / 2,
+    const place = painting.clearCanvasForPainting(canvas, scale, x + w / 2 - clientWidth / scale / 2,
       y + h / 2 - clientHeight / scale / 2);
-    const heard = own.heardCellsNow().map((key) => own.numbering.cellOf(key)), { more, less } = this.differences();
+    const heard = own.heardCellsNow().map((key) => own.numbering.cellOf(key)),
+      { more, less } = this.cellsUnlikeWholeRun();
     painting.paintBlockGrid(place, own.module.box, own.time % 2);
-    painting.paintOutline(place, own.module.box, place.inks.box, [6, 4], 0, 1.5);
-    painting.paintCells(place, own.live, this.mirrors);
-    for (const cell of heard) painting.paintOutline(place, [...cell, 1, 1], place.inks.halo, [2, 2], 3, 2.5);
-    painting.markDifferences(place, more, less);
-    if (this.fault) painting.paintCircle(place, this.fault);
+    painting.paintBoxOutline(place, own.module.box, place.inks.box, [6, 4], 0, 1.5);
+    painting.paintLiveCells(place, own.live, this.mirrors);
+    for (const cell of heard) painting.paintBoxOutline(place, [...cell, 1, 1], place.inks.halo, [2, 2], 3, 2.5);
+    painting.paintDifferences(place, more, less);
+    if (this.fault) painting.paintCellCircle(place, this.fault);
     const told = heard.length ? ` Dotted: ${heard.length} live around the box, as the module is told.` : "";
     this.parts.note.textContent = own.time === run.time ? this.differenceWords() + told : "";
   }
@@ -366,7 +367,7 @@ class Stage {
    * Returns the cells that are live only in the module's own run, and those that are live only in the whole run.
    * @returns {{more: Cell[], less: Cell[]}}
    */
-  differences() {
+  cellsUnlikeWholeRun() {
     const { own, run } = this.player;
     if (!own || own.time !== run.time) return { more: [], less: [] };
     const more = own.live.keys().filter((key) => !run.live.has(key));
@@ -376,7 +377,7 @@ class Stage {
 
   /** Says how many cells differ. */
   differenceWords() {
-    const { more, less } = this.differences(), count = more.length + less.length;
+    const { more, less } = this.cellsUnlikeWholeRun(), count = more.length + less.length;
     if (count === 0) return "No cell differs from the whole run now.";
     const cells = countWithNoun(count, "cell differs", "cells differ");
     return `${cells} from the whole run: ✗ is live only here, ☐ only there.`;
@@ -387,7 +388,7 @@ class Stage {
     const { wave, waveBox, waveRest } = this.parts, { probes, recorder, layout, values } = this.player;
     if (wave.clientHeight === 0) return;
     waveRest.style.height = `${Math.max(0, waveform.waveformHeight(probes) - waveBox.clientHeight)}px`;
-    const place = painting.clearedPlace(wave, 1, 0, 0);
+    const place = painting.clearCanvasForPainting(wave, 1, 0, 0);
     this.axis = waveform.paintRows(place,
       { probes, recorder, steps: layout.steps, values, scrolled: waveBox.scrollTop });
     this.moveWaveCursor();

@@ -1,12 +1,12 @@
 /** A pen that writes SVG: as much of a canvas's 2D context as `painting` uses. */
 
 /** Writes a number with at most two digits after the point. */
-const short = (value) => String(Math.round(value * 100) / 100);
+const shortNumber = (value) => String(Math.round(value * 100) / 100);
 
 /** Writes a text for XML, between tags and in attributes. */
 const escaped = (text) => String(text).replace(/[&<>"']/g, (sign) => `&#${sign.charCodeAt(0)};`);
 
-const ANCHORS = { left: "start", start: "start", center: "middle", right: "end", end: "end" };
+const TEXT_ANCHORS = { left: "start", start: "start", center: "middle", right: "end", end: "end" };
 
 class SvgPen {
   wide;
@@ -39,29 +39,34 @@ class SvgPen {
 
   beginPath() { this.path = []; }
 
-  moveTo(x, y) { this.path.push(`M${short(x)} ${short(y)}`); }
+  moveTo(x, y) { this.path.push(`M${shortNumber(x)} ${shortNumber(y)}`); }
 
-  lineTo(x, y) { this.path.push(`L${short(x)} ${short(y)}`); }
+  lineTo(x, y) { this.path.push(`L${shortNumber(x)} ${shortNumber(y)}`); }
 
   /** Adds a whole circle. Arcs of other angles are not needed. */
   arc(x, y, radius) {
-    const r = short(radius), across = short(2 * radius);
-    this.path.push(`M${short(x - radius)} ${short(y)}a${r} ${r} 0 1 0 ${across} 0a${r} ${r} 0 1 0 -${across} 0`);
+    const r = shortNumber(radius), across = shortNumber(2 * radius);
+    const start = `${shortNumber(x - radius)} ${shortNumber(y)}`;
+    this.path.push(`M${start}a${r} ${r} 0 1 0 ${across} 0a${r} ${r} 0 1 0 -${across} 0`);
   }
 
-  rect(x, y, wide, high) { this.path.push(`M${short(x)} ${short(y)}h${short(wide)}v${short(high)}h${short(-wide)}z`); }
+  rect(x, y, wide, high) {
+    const start = `${shortNumber(x)} ${shortNumber(y)}`;
+    this.path.push(`M${start}h${shortNumber(wide)}v${shortNumber(high)}h${shortNumber(-wide)}z`);
+  }
 
   /** Files an element, unless its path is empty. */
   addPath(attributes) {
-    const opacity = this.globalAlpha === 1 ? "" : ` opacity="${short(this.globalAlpha)}"`;
+    const opacity = this.globalAlpha === 1 ? "" : ` opacity="${shortNumber(this.globalAlpha)}"`;
     if (this.path.length) this.parts.push(`<path d="${this.path.join("")}" ${attributes}${opacity}/>`);
   }
 
   fill() { this.addPath(`fill="${escaped(this.fillStyle)}"`); }
 
   stroke() {
-    const dash = this.dash.length ? ` stroke-dasharray="${this.dash.map(short).join(" ")}"` : "";
-    this.addPath(`fill="none" stroke="${escaped(this.strokeStyle)}" stroke-width="${short(this.lineWidth)}"${dash}`);
+    const dash = this.dash.length ? ` stroke-dasharray="${this.dash.map(shortNumber).join(" ")}"` : "";
+    const width = shortNumber(this.lineWidth);
+    this.addPath(`fill="none" stroke="${escaped(this.strokeStyle)}" stroke-width="${width}"${dash}`);
   }
 
   fillRect(...box) {
@@ -77,15 +82,15 @@ class SvgPen {
   }
 
   fillText(text, x, y) {
-    const style =
-      `text-anchor="${ANCHORS[this.textAlign]}" style="font:${escaped(this.font)}" fill="${escaped(this.fillStyle)}"`;
-    this.parts.push(`<text x="${short(x)}" y="${short(y)}" ${style}>${escaped(text)}</text>`);
+    const style = `text-anchor="${TEXT_ANCHORS[this.textAlign]}" style="font:${escaped(this.font)}" `
+      + `fill="${escaped(this.fillStyle)}"`;
+    this.parts.push(`<text x="${shortNumber(x)}" y="${shortNumber(y)}" ${style}>${escaped(text)}</text>`);
   }
 
   /** Returns the picture on a ground. @type {(ground: string, title: string) => string} */
-  text(ground, title) {
-    const size = `${short(this.wide)} ${short(this.high)}`;
-    const sides = `width="${short(this.wide)}" height="${short(this.high)}"`;
+  svgDocument(ground, title) {
+    const size = `${shortNumber(this.wide)} ${shortNumber(this.high)}`;
+    const sides = `width="${shortNumber(this.wide)}" height="${shortNumber(this.high)}"`;
     return `<svg xmlns="http://www.w3.org/2000/svg" viewBox="0 0 ${size}" ${sides} role="img">`
       + `<title>${escaped(title)}</title>\n<rect width="100%" height="100%" fill="${escaped(ground)}"/>\n`
       + `${this.parts.join("\n")}\n</svg>\n`;

@@ -5,18 +5,18 @@
 
 // The side of a tile in pixels, the finest scale, how many tiles are kept, and how long a frame may make tiles, in
 // milliseconds.
-const SIDE = 512, FINEST = 2, MAX_TILES = 96, BUDGET = 7;
+const TILE_SIDE_PIXELS = 512, FINEST = 2, MAX_TILES = 96, BUDGET = 7;
 const BUCKET_BITS = 7, COLUMNS = 64;
 
 /** Rectangles, cells and diagonals of a layout, filed by squares of 128 cells. */
-class Buckets {
+class SquareIndex {
   filed = new Map();
   count = 0;
   seen = new Uint32Array(0);
   look = 0;
 
   /** Files a number under a square. */
-  file(column, row, number) {
+  addToSquare(column, row, number) {
     const square = row * COLUMNS + column;
     if (!this.filed.has(square)) this.filed.set(square, []);
     const list = this.filed.get(square);
@@ -26,8 +26,9 @@ class Buckets {
   /** Files a rectangle under the next number. */
   addBox(x, y, w, h) {
     for (let row = y >> BUCKET_BITS; row <= (y + h - 1) >> BUCKET_BITS; row += 1) {
-      for (let column = x >> BUCKET_BITS; column <= (x + w - 1) >> BUCKET_BITS; column += 1) this.file(column, row,
-          this.count);
+      for (let column = x >> BUCKET_BITS; column <= (x + w - 1) >> BUCKET_BITS; column += 1) {
+        this.addToSquare(column, row, this.count);
+      }
     }
     this.count += 1;
   }
@@ -38,7 +39,7 @@ class Buckets {
     const edge = 1 << BUCKET_BITS;
     for (let at = 0; ; ) {
       const column = (x + dx * at) >> BUCKET_BITS, row = (y + dy * at) >> BUCKET_BITS;
-      this.file(column, row, this.count);
+      this.addToSquare(column, row, this.count);
       // The steps until the piece leaves this square.
       const leave = (step, place, square) => (step > 0 ? ((square + 1) * edge) - place
         : step < 0 ? place - square * edge + 1 : Infinity);
@@ -49,7 +50,7 @@ class Buckets {
   }
 
   /** Calls an action with each number that was filed under a square of a range of cells, once. */
-  visit([x0, y0, x1, y1], action) {
+  visitRange([x0, y0, x1, y1], action) {
     if (this.seen.length < this.count) this.seen = new Uint32Array(this.count);
     this.look += 1;
     for (let row = Math.max(0, y0) >> BUCKET_BITS; row <= y1 >> BUCKET_BITS; row += 1) {
@@ -65,20 +66,20 @@ class Buckets {
 }
 
 // The boxes of modules and the cells of ports that were filed, by their lists.
-const filedModules = new WeakMap(), filedPorts = new WeakMap();
+const moduleIndexByList = new WeakMap(), filedPorts = new WeakMap();
 
 /** Returns the boxes of modules by squares, filed once, and the longest of their short sides. */
-function fileModules(modules) {
-  if (!filedModules.has(modules)) {
-    const filed = new Buckets();
+function moduleIndex(modules) {
+  if (!moduleIndexByList.has(modules)) {
+    const filed = new SquareIndex();
     let widest = 0;
     for (const { box: [x, y, w, h] } of modules) {
       filed.addBox(x, y, w, h);
       widest = Math.max(widest, Math.min(w, h));
     }
-    filedModules.set(modules, { filed, widest });
+    moduleIndexByList.set(modules, { filed, widest });
   }
-  return filedModules.get(modules);
+  return moduleIndexByList.get(modules);
 }
 
 /**
@@ -86,19 +87,19 @@ function fileModules(modules) {
  * takes 5 ms.
  */
 const visitModules = (modules, range, action) =>
-  fileModules(modules).filed.visit(range, (number) => action(number, modules[number].box));
+  moduleIndex(modules).filed.visitRange(range, (number) => action(number, modules[number].box));
 
 /** Returns the longest of the short sides of modules. */
-const maxShortSide = (modules) => fileModules(modules).widest;
+const maxModuleShortSide = (modules) => moduleIndex(modules).widest;
 
 /** Calls an action with the number and the cell of each port near a range of cells. */
 function visitPorts(ports, range, action) {
   if (!filedPorts.has(ports)) {
-    const filed = new Buckets();
+    const filed = new SquareIndex();
     for (const { cell: [x, y] } of ports) filed.addBox(x, y, 1, 1);
     filedPorts.set(ports, filed);
   }
-  filedPorts.get(ports).visit(range, (number) => action(number, ports[number].cell));
+  filedPorts.get(ports).visitRange(range, (number) => action(number, ports[number].cell));
 }
 
 /** Returns the squares by which cells are filed that a range touches: x, y, x, y, the ends included. */
@@ -149,42 +150,44 @@ class Tiles {
     this.width = width;
     this.height = height;
     this.draw = draw;
-    this.coarsest = Math.min(FINEST, Math.floor(Math.log2(SIDE / Math.max(width, height))));
+    this.coarsest = Math.min(FINEST, Math.floor(Math.log2(TILE_SIDE_PIXELS / Math.max(width, height))));
   }
 
   /** Forgets all tiles: what they show has changed. */
   clear() { this.made.clear(); }
 
   /** Calls an action with the name, the canvas and the place of each tile that shows something of what is filed. */
-  visitTouched(changed, action) {
+  visitTouchedTiles(changed, action) {
     for (const [name, canvas] of [...this.made]) {
-      const [level, column, row] = name.split(" ").map(Number), scale = 2 ** level, cells = SIDE / scale;
+      const [level, column, row] = name.split(" ").map(Number), scale = 2 ** level, cells = TILE_SIDE_PIXELS / scale;
       const x = column * cells, y = row * cells;
       let isTouched = false;
-      changed.visit([x, y, x + cells - 1, y + cells - 1], () => { isTouched = true; });
-      if (isTouched) action(name, canvas, { scale, left: x, top: y, wide: SIDE, high: SIDE });
+      changed.visitRange([x, y, x + cells - 1, y + cells - 1], () => { isTouched = true; });
+      if (isTouched) action(name, canvas, { scale, left: x, top: y, wide: TILE_SIDE_PIXELS, high: TILE_SIDE_PIXELS });
     }
   }
 
-  /** Forgets the tiles that show something of what is filed. @param {Buckets} changed */
-  forget(changed) { this.visitTouched(changed, (name) => this.made.delete(name)); }
+  /** Forgets the tiles that show something of what is filed. @param {SquareIndex} changed */
+  forget(changed) { this.visitTouchedTiles(changed, (name) => this.made.delete(name)); }
 
   /**
    * Draws what was added over the tiles that show something of it.
-   * @param {Buckets} added
+   * @param {SquareIndex} added
    * @param {(place: Place) => void} draw
    */
-  add(added, draw) { this.visitTouched(added, (_, canvas, place) => draw({ ...place, pen: canvas.getContext("2d") })); }
+  add(added, draw) {
+    this.visitTouchedTiles(added, (_, canvas, place) => draw({ ...place, pen: canvas.getContext("2d") }));
+  }
 
   /** Returns the level whose scale is the next at or above one. */
   levelOf(scale) { return Math.max(this.coarsest, Math.min(FINEST, Math.ceil(Math.log2(scale)))); }
 
   /** Makes a tile. */
   makeTile(level, column, row) {
-    const scale = 2 ** level, cells = SIDE / scale, x = column * cells, y = row * cells;
+    const scale = 2 ** level, cells = TILE_SIDE_PIXELS / scale, x = column * cells, y = row * cells;
     const canvas = document.createElement("canvas");
-    canvas.width = canvas.height = SIDE;
-    this.draw({ pen: canvas.getContext("2d"), scale, left: x, top: y, wide: SIDE, high: SIDE },
+    canvas.width = canvas.height = TILE_SIDE_PIXELS;
+    this.draw({ pen: canvas.getContext("2d"), scale, left: x, top: y, wide: TILE_SIDE_PIXELS, high: TILE_SIDE_PIXELS },
       [x - 2, y - 2, x + cells + 2, y + cells + 2]);
     this.made.set(tileName(level, column, row), canvas);
     // A map lists what was set first: the tile that was not used for the longest time.
@@ -193,7 +196,7 @@ class Tiles {
   }
 
   /** Returns a tile that is made, or undefined. It counts as used. */
-  useTile(level, column, row) {
+  findMadeTile(level, column, row) {
     const name = tileName(level, column, row), found = this.made.get(name);
     if (found) {
       this.made.delete(name);
@@ -204,7 +207,7 @@ class Tiles {
 
   /** Returns the tiles of a level that a place shows, those in the middle first. */
   shownTiles({ left, top, wide, high, scale }, level) {
-    const cells = SIDE / 2 ** level, found = [], last = (size) => Math.ceil(size / cells) - 1;
+    const cells = TILE_SIDE_PIXELS / 2 ** level, found = [], last = (size) => Math.ceil(size / cells) - 1;
     const x0 = Math.max(0, Math.floor(left / cells));
     const x1 = Math.min(last(this.width), Math.floor((left + wide / scale) / cells));
     const y0 = Math.max(0, Math.floor(top / cells));
@@ -216,10 +219,10 @@ class Tiles {
 
   /** Copies a tile, or the part of a coarser one that is made, to its place. */
   copyTile({ pen, left, top, scale }, level, column, row) {
-    const cells = SIDE / 2 ** level, x = (column * cells - left) * scale, y = (row * cells - top) * scale;
+    const cells = TILE_SIDE_PIXELS / 2 ** level, x = (column * cells - left) * scale, y = (row * cells - top) * scale;
     const side = cells * scale;
     for (let up = 0; level - up >= this.coarsest; up += 1) {
-      const part = SIDE / 2 ** up, canvas = this.useTile(level - up, column >> up, row >> up);
+      const part = TILE_SIDE_PIXELS / 2 ** up, canvas = this.findMadeTile(level - up, column >> up, row >> up);
       if (!canvas) continue;
       pen.drawImage(canvas, (column - (column >> up << up)) * part, (row - (row >> up << up)) * part, part, part, x, y,
         side, side);
@@ -228,14 +231,14 @@ class Tiles {
   }
 
   /** Draws what a place shows, with the tiles that there is time to make. Returns whether none is missing. */
-  paint(place, ratio = 1) {
+  paintShownTiles(place, ratio = 1) {
     const level = this.levelOf(place.scale * ratio), wanted = this.shownTiles(place, level);
     const until = performance.now() + BUDGET;
-    for (const [column, row] of this.shownTiles(place, this.coarsest)) if (!this.useTile(this.coarsest, column,
+    for (const [column, row] of this.shownTiles(place, this.coarsest)) if (!this.findMadeTile(this.coarsest, column,
         row)) this.makeTile(this.coarsest, column, row);
     let missing = 0;
     for (const [column, row] of wanted) {
-      if (this.useTile(level, column, row)) continue;
+      if (this.findMadeTile(level, column, row)) continue;
       if (performance.now() < until) this.makeTile(level, column, row);
       else missing += 1;
     }
@@ -244,4 +247,4 @@ class Tiles {
   }
 }
 
-export { Tiles, Buckets, changedIndexes, visitModules, visitPorts, maxShortSide, squaresInRange };
+export { Tiles, SquareIndex, changedIndexes, visitModules, visitPorts, maxModuleShortSide, squaresInRange };

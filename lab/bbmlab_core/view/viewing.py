@@ -22,7 +22,7 @@ EXPORT_PATTERN = re.compile(r"^export (\{[^}]*\});$", re.MULTILINE)
 RENAMED_ITEM_PATTERN = re.compile(r"(\w+) as (\w+)")
 
 
-def page_data(document: Document, explanation: ExplainedAnswer | None) -> str:
+def page_data_json(document: Document, explanation: ExplainedAnswer | None) -> str:
     """Returns what the page shows, as JSON that may stand in a script element."""
     parts = json.loads(json_form.document_json_text(document, None))
     parts["explanation"] = asdict(explanation) if explanation else None
@@ -35,12 +35,12 @@ def template_text(name: str) -> str:
     return (TEMPLATE_FOLDER / name).read_text(encoding="utf-8")
 
 
-def add_with_imports(name: str, found: dict[str, str]) -> dict[str, str]:
+def add_module_with_imports(name: str, found: dict[str, str]) -> dict[str, str]:
     """Adds a module's text to those found, after the modules that it imports, and returns them by their names."""
     text = template_text(f"{name}.js")
     for line in IMPORT_PATTERN.finditer(text):
         if line[3] not in found:
-            add_with_imports(line[3], found)
+            add_module_with_imports(line[3], found)
     found[name] = text
     return found
 
@@ -60,7 +60,7 @@ def module_expression(text: str) -> str:
 
 def joined_script(name: str) -> str:
     """Returns a module and those that it needs as one script: a page of one file has no other files to import."""
-    needed = add_with_imports(name, {}).items()
+    needed = add_module_with_imports(name, {}).items()
     return '"use strict";\nconst bbmlab = {};\n' + "".join(
         f"bbmlab.{own} = {module_expression(text)};\n" for own, text in needed)
 
@@ -70,7 +70,7 @@ def policy_hash(text: str) -> str:
     return f"'sha256-{base64.b64encode(hashlib.sha256(text.encode()).digest()).decode()}'"
 
 
-def page_text(document: Document, explanation: ExplainedAnswer | None, title: str) -> str:
+def page_html(document: Document, explanation: ExplainedAnswer | None, title: str) -> str:
     """Writes the page: the template with its style, its script and its data in place."""
     assert document.layout
     before, after = template_text("page.html").split("DATA")
@@ -80,4 +80,4 @@ def page_text(document: Document, explanation: ExplainedAnswer | None, title: st
               "base-uri 'none'; form-action 'none'")
     for mark, text in (("POLICY", policy), ("STYLE", style), ("TITLE", escape(escape_controls(title)))):
         before = before.replace(mark, text)
-    return before + page_data(document, explanation) + after.replace("SCRIPT", script)
+    return before + page_data_json(document, explanation) + after.replace("SCRIPT", script)

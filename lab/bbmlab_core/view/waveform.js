@@ -13,7 +13,7 @@ const ROW_HEIGHT = 20, AXIS_HEIGHT = 18, MAX_NAMES = 260;
  * Returns the cells to watch, in the order of the circuit's wires, and of one wire in the order of time.
  * @type {(data: Data) => Probe[]}
  */
-function probesOf(data) {
+function waveformProbes(data) {
   const { layout, circuit, certificate } = data, numbering = new CellNumbering(layout), found = new Map();
   const file = (wire, cell, time, kind) => {
     const key = numbering.keyOf(...cell), id = `${wire} ${key}`;
@@ -35,7 +35,7 @@ function probesOf(data) {
 }
 
 /** Returns how many of some rising times are at most a time. */
-function countUntil(times, time) {
+function countTimesUntil(times, time) {
   let least = 0, most = times.length;
   while (least < most) {
     const middle = (least + most) >> 1;
@@ -46,7 +46,7 @@ function countUntil(times, time) {
 }
 
 /** Which probes' cells changed at which times. */
-class Recorder {
+class SignalRecorder {
   watched;
   signals;
   until;
@@ -65,7 +65,7 @@ class Recorder {
   }
 
   /** Notes the step that a run has just made. */
-  note(run) {
+  noteStep(run) {
     this.until = run.time;
     if (this.watched === null) return;
     for (const key of run.recent[1]) if (this.watched[key] === 1) this.signals.get(key).changes.push(run.time);
@@ -78,7 +78,7 @@ class Recorder {
   isLive(key, time) {
     if (time > this.until) return undefined;
     const { isLive, changes } = this.signalOf(key);
-    return (countUntil(changes, time) % 2 === 1) !== isLive;
+    return (countTimesUntil(changes, time) % 2 === 1) !== isLive;
   }
 }
 
@@ -121,7 +121,7 @@ function paintAxis(place, { left, unit }, steps) {
 }
 
 /** Draws when a cell is live. Spans that are nearer than a pixel become one. */
-function paintSpans(place, spans, { left, unit }, top) {
+function paintLiveSpans(place, spans, { left, unit }, top) {
   const { pen, inks } = place, low = top + ROW_HEIGHT - 5;
   let last = null;
   const bars = [];
@@ -162,14 +162,15 @@ function paintMark(place, x, y, isGood) {
 /**
  * Draws the rows that can be seen.
  * @param {Object} place a place of `painting`
- * @param {{probes: Probe[], recorder: Recorder, steps: number, values: ?Map<string, boolean>, scrolled: number}} wave
+ * @param {{probes: Probe[], recorder: SignalRecorder, steps: number, values: ?Map<string, boolean>,
+ *   scrolled: number}} wave
  */
 function paintRows(place, { probes, recorder, steps, values, scrolled }) {
   const axis = axisGeometry(place, probes, steps), first = Math.max(0, Math.floor(scrolled / ROW_HEIGHT));
   const last = Math.min(probes.length, Math.ceil((scrolled + place.high) / ROW_HEIGHT));
   for (let row = first; row < last; row += 1) {
     const probe = probes[row], top = row * ROW_HEIGHT - scrolled, wanted = values ? values.get(probe.wire) : undefined;
-    paintSpans(place, liveSpans(recorder.signalOf(probe.key), recorder.until), axis, top);
+    paintLiveSpans(place, liveSpans(recorder.signalOf(probe.key), recorder.until), axis, top);
     for (const { time } of probe.marks) {
       const isLive = recorder.isLive(probe.key, time);
       const isGood = isLive === undefined || wanted === undefined ? undefined : isLive === wanted;
@@ -189,4 +190,4 @@ function paintRows(place, { probes, recorder, steps, values, scrolled }) {
 /** Returns the height of all rows with the axis, in pixels. */
 const waveformHeight = (probes) => probes.length * ROW_HEIGHT + AXIS_HEIGHT;
 
-export { probesOf, Recorder, liveSpans, paintRows, waveformHeight };
+export { waveformProbes, SignalRecorder, liveSpans, paintRows, waveformHeight };

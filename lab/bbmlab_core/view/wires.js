@@ -4,7 +4,7 @@
  * @typedef {{name: string, equal: string[], level: number, pieces: number[]}} Wire five numbers for each piece: x and y
  * of its first and of its last cell, and the time at the first
  */
-import { Buckets } from "./tiles.js";
+import { SquareIndex } from "./tiles.js";
 
 const NUMBERS_PER_PIECE = 5, GROUPS = 8;
 
@@ -25,7 +25,7 @@ function strokePieces({ pen, scale, left, top }, pieces, size) {
   pen.stroke();
 }
 
-class Wires {
+class WireWays {
   list;
   sampled;
   circuit;
@@ -40,7 +40,7 @@ class Wires {
     this.list = ways ? ways.wires : [];
     this.sampled = ways ? ways.sampled : "";
     this.circuit = circuit;
-    this.filed = new Buckets();
+    this.filed = new SquareIndex();
     for (const wire of this.list) {
       for (let at = 0; at < wire.pieces.length; at += NUMBERS_PER_PIECE) {
         this.filed.addPiece(wire.pieces[at], wire.pieces[at + 1], wire.pieces[at + 2], wire.pieces[at + 3]);
@@ -61,8 +61,8 @@ class Wires {
   groupOf({ name, level }) { return name === "" || name === "1" ? GROUPS : Math.floor(level / this.span); }
 
   /** Calls an action with x, y, x, y, the wire and the time at the first cell of each piece in a range of cells. */
-  visit(range, action) {
-    this.filed.visit(range, (number) => {
+  visitPieces(range, action) {
+    this.filed.visitRange(range, (number) => {
       const wire = this.owners[number], at = this.starts[number], { pieces } = wire;
       action(pieces[at], pieces[at + 1], pieces[at + 2], pieces[at + 3], wire, pieces[at + 4]);
     });
@@ -75,7 +75,7 @@ class Wires {
    */
   wireAt(x, y, most) {
     let found = null, least = most;
-    this.visit([Math.floor(x - most), Math.floor(y - most), Math.ceil(x + most), Math.ceil(y + most)],
+    this.visitPieces([Math.floor(x - most), Math.floor(y - most), Math.ceil(x + most), Math.ceil(y + most)],
       (x0, y0, x1, y1, wire, time) => {
       const far = Math.max(Math.abs(x1 - x0), Math.abs(y1 - y0)), dx = Math.sign(x1 - x0), dy = Math.sign(y1 - y0);
       const step = Math.max(0, Math.min(far, Math.round(((x - x0) * dx + (y - y0) * dy) / (dx * dx + dy * dy))));
@@ -94,7 +94,7 @@ class Wires {
   }
 
   /** Returns the box of all pieces of a wire: x, y, width and height. */
-  boxOf({ pieces }) {
+  boxOfWire({ pieces }) {
     const box = [Infinity, Infinity, -Infinity, -Infinity];
     for (let at = 0; at < pieces.length; at += NUMBERS_PER_PIECE) {
       box[0] = Math.min(box[0], pieces[at], pieces[at + 2]);
@@ -130,7 +130,7 @@ class Wires {
   }
 
   /** Says what is known of a wire: its names, its gates, its level and its times. */
-  wordsOf(wire) {
+  wireWords(wire) {
     const [first, last] = this.firstAndLastTime(wire);
     const hasGates = wire.name !== "" && wire.name !== "1";
     const makers = hasGates ? `: ${this.sourceAndTargetWords(wire)}, level ${wire.level}` : "";
@@ -140,7 +140,7 @@ class Wires {
   /** Draws the ways of a range of cells on a place, by groups of levels in some colours. */
   drawWays({ pen, scale, left, top }, range, inks) {
     const found = Array.from({ length: GROUPS + 1 }, () => []);
-    this.visit(range, (x, y, u, v, wire) => found[this.groupOf(wire)].push(x, y, u, v));
+    this.visitPieces(range, (x, y, u, v, wire) => found[this.groupOf(wire)].push(x, y, u, v));
     pen.lineWidth = Math.max(1, 0.22 * scale);
     pen.globalAlpha = 0.7;
     // What is no wire's lies below.
@@ -152,7 +152,7 @@ class Wires {
   }
 
   /** Draws all ways of a wire, so that they stand out. */
-  drawInFront({ pen, scale, left, top, inks }, wire) {
+  drawWireInFront({ pen, scale, left, top, inks }, wire) {
     for (const [ink, width] of [[inks.plane, 6], [inks.ink, 3]]) {
       pen.strokeStyle = ink;
       pen.lineWidth = Math.max(width, width / 10 * scale);
@@ -161,4 +161,4 @@ class Wires {
   }
 }
 
-export { Wires, wireTitle };
+export { WireWays, wireTitle };

@@ -31,7 +31,7 @@ __all__ = [
 ]
 
 # The module of each name, in this package or of the lab.
-_HOMES = {
+_NAMES_BY_MODULE = {
     "_asking": ("Explanation", "Finding", "Report", "check", "explain"),
     "_circuits": ("Comparison", "Netlist", "Row", "clean", "equivalent", "inverse", "read_netlist", "simplify", "stats",
                   "table", "to_conservative"),
@@ -49,7 +49,7 @@ _HOMES = {
 if not TYPE_CHECKING:
     def __getattr__(name: str) -> object:
         """Returns a public name, whose module is imported now."""
-        home = next((home for home, names in _HOMES.items() if name in names), None)
+        home = next((home for home, names in _NAMES_BY_MODULE.items() if name in names), None)
         if home is None:
             raise AttributeError(f"module {__name__!r} has no attribute {name!r}")
         import importlib

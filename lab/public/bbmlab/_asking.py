@@ -8,17 +8,17 @@ from dataclasses import dataclass
 from typing import Any
 
 from bbmlab_core.commands.explain import explanation_text
-from bbmlab_core.explain.explaining import as_json, explain_answer
-from bbmlab_core.explain.trials import Budget, TrialRunner
+from bbmlab_core.explain.explaining import explain_answer, explanation_json_text
+from bbmlab_core.explain.trials import TrialBudget, TrialRunner
 from bbmlab_core.farm.answering import why_bad_answer
 from bbmlab_core.host import program as programs
-from bbmlab_core.texts.documents import command_for, read_document
+from bbmlab_core.texts.documents import command_for_text, read_document
 from bbmlab_core.texts.refusals import explain_code, explain_refusal
 from bbmlab_core.texts.reports import ReportError, parse_report
 from bbmlab_core.texts.sections import Bundle
 
 from ._errors import ProgramError, RefusedError
-from ._reading import byte_characters
+from ._reading import text_as_byte_characters
 
 VERDICT_OF_STATUS = {0: "yes", 1: "no"}
 COLOUR_PATTERN = re.compile(r"\033\[\d*m")
@@ -92,10 +92,10 @@ def opened_program(program: str | None) -> programs.Executable:
         raise ProgramError(str(error)) from error
 
 
-def answer_of(program: programs.Executable, command: str, text: str, timeout: float | None) -> programs.Answer:
+def answer_of(program: programs.Executable, command: str, text: str, timeout: float | None) -> programs.ProgramAnswer:
     """Returns what the program answers. Raises ProgramError and TimeoutError if it gives no answer."""
     try:
-        answer = programs.ask(program, command, text.encode("latin-1"), timeout)
+        answer = programs.ask_program(program, command, text.encode("latin-1"), timeout)
     except programs.ProgramTimeout as error:
         raise TimeoutError(str(error)) from error
     except programs.BadProgramError as error:
@@ -120,7 +120,7 @@ def check(text: str | Bundle, *, program: str | None = None, timeout: float | No
     Raises RefusedError if the program refuses the text, TimeoutError after `timeout` seconds, and ProgramError if it
     gives no report.
     """
-    data = byte_characters(text)
+    data = text_as_byte_characters(text)
     answer = answer_of(opened_program(program), "check", data, timeout)
     try:
         report = parse_report(answer.output)
@@ -130,8 +130,9 @@ def check(text: str | Bundle, *, program: str | None = None, timeout: float | No
         raise refused_error(data, *report.refused)
     if report.refused or VERDICT_OF_STATUS.get(answer.status) != report.verdict:
         raise ProgramError(f"the program ended with status {answer.status}, which its report does not fit")
-    findings = tuple(Finding(finding.word, finding.text, finding.is_against, **finding.values)  # type: ignore[arg-type]
-                     for finding in report.findings)
+    findings = tuple(
+        Finding(finding.word, finding.text, finding.is_reason_for_no, **finding.values)  # type: ignore[arg-type]
+        for finding in report.findings)
     return Report(report.verdict, answer.status, report.digest, report.module_count, findings, answer.output)
 
 
@@ -141,17 +142,18 @@ def explain(text: str | Bundle, *, effort: float = 30.0, program: str | None = N
 
     Raises ProgramError if the program gives no answer.
     """
-    data = byte_characters(text)
-    command, asked = command_for(data), opened_program(program)
+    data = text_as_byte_characters(text)
+    command, asked = command_for_text(data), opened_program(program)
     command = PROGRAM_COMMAND_OF.get(command, command)
     answer = answer_of(asked, command, data, None)
     why = why_bad_answer(answer) if command == "check" else None
     if why:
         raise ProgramError(f"the program gave no verdict: {why}")
     try:
-        explanation = explain_answer(data, command, answer.output, "text", TrialRunner(asked, Budget(seconds=effort)))
+        explanation = explain_answer(data, command, answer.output, "text",
+                                     TrialRunner(asked, TrialBudget(seconds=effort)))
     except ReportError as error:
         raise ProgramError(str(error)) from error
     fixed = None if explanation.fixed is None else explanation.fixed.encode("latin-1").decode("utf-8", "replace")
     return Explanation(explanation.verdict, COLOUR_PATTERN.sub("", explanation_text(explanation)),
-                       json.loads(as_json(explanation)), fixed)
+                       json.loads(explanation_json_text(explanation)), fixed)

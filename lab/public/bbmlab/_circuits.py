@@ -14,10 +14,10 @@ from bbmlab_core.circuits.netlists.model import LogicNetlist as CoreNetlist
 from bbmlab_core.circuits.simplifying import simplify as simple_lines
 from bbmlab_core.host.terminal import LabError
 from bbmlab_core.texts.circuits import Circuit, values_and_undefined_gate
-from bbmlab_core.texts.sections import Bundle, text_of_section
+from bbmlab_core.texts.sections import Bundle, section_text_with_limits
 
 from ._errors import NotFoundError
-from ._reading import byte_characters, document_of
+from ._reading import document_of, text_as_byte_characters
 
 
 @dataclass(frozen=True)
@@ -52,9 +52,9 @@ class Comparison(NamedTuple):
 
 def read_netlist(text: str, *, form: str | None = None) -> Netlist:
     """Reads a netlist, whose form its content says if none is given. Raises ValueError if it is none."""
-    given = byte_characters(text)
+    given = text_as_byte_characters(text)
     try:
-        known = core.NetlistFormat(form) if form is not None else core.netlist_format(given)
+        known = core.NetlistFormat(form) if form is not None else core.guessed_netlist_format(given)
         netlist = core.read_netlist(given, known)
     except LabError as error:
         raise ValueError(str(error)) from error
@@ -82,7 +82,8 @@ def to_conservative(netlist: Netlist | str, *, cycles: int | None = None, state:
 
 def accepted_circuit(circuit: Circuit | str) -> Circuit:
     """Returns a circuit that the lab's reader takes. Raises RefusedError if it refuses it."""
-    found = document_of(text_of_section(circuit) if isinstance(circuit, Circuit) else circuit, "circuit").circuit
+    found = document_of(section_text_with_limits(circuit) if isinstance(circuit, Circuit) else circuit,
+                        "circuit").circuit
     assert found is not None
     return found
 
@@ -142,7 +143,7 @@ def stats(text: Bundle | Circuit) -> dict[str, int]:
 
     Raises RefusedError if the text is refused.
     """
-    document = document_of(text_of_section(text) if isinstance(text, Circuit) else str(text),
+    document = document_of(section_text_with_limits(text) if isinstance(text, Circuit) else str(text),
                            "circuit" if isinstance(text, Circuit) else None)
     return {name.strip(): int(value) for name, value in truth.document_figures(document) if value.isdecimal()}
 

@@ -8,21 +8,21 @@ from __future__ import annotations
 from dataclasses import replace
 from typing import Callable, Iterable
 
-from bbmlab_core.certify.certifier import CertificateOptions, certified_text, legal_grid_boxes
-from bbmlab_core.circuits.netlists import NetlistError, map_netlist, netlist_format
+from bbmlab_core.certify.certifier import CertificateOptions, certified_text, checked_grid_boxes
+from bbmlab_core.circuits.netlists import NetlistError, guessed_netlist_format, map_netlist
 from bbmlab_core.circuits.row_check import first_missing_row_words
 from bbmlab_core.host.terminal import LabError
 from bbmlab_core.route.certificate import circuit_section
 from bbmlab_core.route.command import require_all_keeps, require_legal_side
-from bbmlab_core.route.search import Search, SearchOptions
-from bbmlab_core.route.settings import Settings
+from bbmlab_core.route.search import RouterSearch, SearchOptions
+from bbmlab_core.route.settings import RouterSettings
 from bbmlab_core.texts.certificates import Stop
 from bbmlab_core.texts.circuits import Circuit
 from bbmlab_core.texts.documents import read_document
 from bbmlab_core.texts.layouts import Box
 from bbmlab_core.texts.limits import text_without_limits_line
-from bbmlab_core.texts.sections import Bundle, text_of_section
-from bbmlab_core.texts.spelling import spelling_of
+from bbmlab_core.texts.sections import Bundle, section_text_with_limits
+from bbmlab_core.texts.spelling import spell_text
 
 from ._errors import NotFoundError, RefusedError
 from ._reading import document_of, read
@@ -60,7 +60,7 @@ def certify(bundle: Bundle, *, grid: tuple[int, int] | None = None,
     chosen = [Box(*box) for box in boxes] if boxes is not None else None
     try:
         if grid is not None:
-            chosen = legal_grid_boxes(document.layout, *grid)
+            chosen = checked_grid_boxes(document.layout, *grid)
         text = certified_text(document, chosen, CertificateOptions(version, cuts, stops_of_bundle(bundle)))
     except LabError as error:
         raise api_error(error) from error
@@ -71,7 +71,7 @@ def certify(bundle: Bundle, *, grid: tuple[int, int] | None = None,
         raise ValueError(f"the boxes give no certificate: {refused.reason}") from refused
 
 
-class Cancelled(KeyboardInterrupt):
+class SearchCancelled(KeyboardInterrupt):
     """Ends a search, as an interrupt does."""
 
 
@@ -79,8 +79,8 @@ def circuit_text(circuit: Circuit | str) -> str:
     """Returns the text of a circuit: also of a netlist, which is mapped, and of a text that begins with a circuit."""
     if isinstance(circuit, Circuit):
         return str(circuit)
-    if netlist_format(circuit) is None:
-        return circuit_section(spelling_of(circuit).text)
+    if guessed_netlist_format(circuit) is None:
+        return circuit_section(spell_text(circuit).text)
     try:
         return map_netlist(circuit).text
     except NetlistError as error:
@@ -103,7 +103,7 @@ def route(circuit: Circuit | str, *, seed: int = 1, size: int | None = None, eff
     if min(seed, jobs) < 1 or effort <= 0:
         raise ValueError("seed and jobs are from 1, and effort is more than 0 seconds")
     given = circuit_text(circuit)
-    model = document_of(text_of_section(circuit) if isinstance(circuit, Circuit) else given, "circuit").circuit
+    model = document_of(section_text_with_limits(circuit) if isinstance(circuit, Circuit) else given, "circuit").circuit
     text = text_without_limits_line(given)
     assert model is not None
     try:
@@ -117,16 +117,17 @@ def route(circuit: Circuit | str, *, seed: int = 1, size: int | None = None, eff
             error) from error
     is_cancelled = False
 
-    def tell(attempt: int, side: int, placed: int, total: int) -> None:
+    def tell_progress_or_cancel(attempt: int, side: int, placed: int, total: int) -> None:
         """Hands on how far the search is, and ends it if it is cancelled."""
         nonlocal is_cancelled
         if progress:
             progress(attempt, side, placed, total)
         if cancel and cancel():
             is_cancelled = True
-            raise Cancelled
+            raise SearchCancelled
 
-    outcome = Search(model, text, SearchOptions(seed, size, effort, jobs, compact), Settings(), tell).run()
+    outcome = RouterSearch(model, text, SearchOptions(seed, size, effort, jobs, compact), RouterSettings(),
+                           tell_progress_or_cancel).run()
     if is_cancelled and outcome.routed is None:
         raise NotFoundError(f"the search was cancelled: {outcome.placed} of {outcome.total} gates were placed at most")
     if outcome.is_interrupted and not is_cancelled:

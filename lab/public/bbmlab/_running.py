@@ -6,7 +6,7 @@ from typing import Iterable, Iterator, NamedTuple
 
 from bbmlab_core.physics.simulation import ModuleRun, WholeRun, layout_run
 from bbmlab_core.texts.layouts import Cell, Layout
-from bbmlab_core.texts.sections import Bundle, text_of_section
+from bbmlab_core.texts.sections import Bundle, section_text_with_limits
 
 from ._reading import document_of
 
@@ -25,7 +25,7 @@ def simulate(layout: Layout, inputs: Iterable[str] = (), steps: int | None = Non
     Raises RefusedError for a layout that is refused, and ValueError for another name than that of an `in` cell or
     negative steps.
     """
-    model = document_of(text_of_section(layout), "layout").layout
+    model = document_of(section_text_with_limits(layout), "layout").layout
     assert model is not None
     on, last = set(inputs), layout.steps if steps is None else steps
     unknown = sorted(on - {port.name for port in layout.ins})
@@ -33,14 +33,14 @@ def simulate(layout: Layout, inputs: Iterable[str] = (), steps: int | None = Non
         raise ValueError(f"no `in` cell has the name {unknown[0]}")
     if last < 0:
         raise ValueError(f"{last} steps are fewer than 0")
-    return whole_states(layout_run(model, on), last)
+    return whole_run_states(layout_run(model, on), last)
 
 
-def whole_states(run: WholeRun, last: int) -> Iterator[State]:
+def whole_run_states(run: WholeRun, last: int) -> Iterator[State]:
     """Yields the states of a whole run, up to the first one that is not inside the rectangle."""
     is_inside = True
     while True:
-        yield State(run.time, frozenset(run.field.state()), is_inside)
+        yield State(run.time, frozenset(run.field.live_cells_under()), is_inside)
         if run.time == last or not is_inside:
             return
         is_inside = run.step()
@@ -71,7 +71,7 @@ def local_run(bundle: Bundle, module: int, assignment: int = 0) -> Iterator[Stat
 def module_states(run: ModuleRun, assignment: int) -> Iterator[State]:
     """Yields the states of a module's run."""
     while True:
-        yield State(run.time, frozenset(run.field.state(assignment)))
+        yield State(run.time, frozenset(run.field.live_cells_under(assignment)))
         if run.time == run.layout.steps:
             return
         run.step()

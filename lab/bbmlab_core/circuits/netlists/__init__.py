@@ -12,29 +12,29 @@ from typing import Any, Callable
 from ...texts.circuits import Circuit
 from ...texts.documents import read_document
 from ...texts.gates import input_tables
-from ...texts.sections import text_of_section
+from ...texts.sections import section_text_with_limits
 from .aiger import read_aiger
 from .blif import read_blif
 from .circuit_text import NamedCircuit
-from .comparing import require_agreement, net_tables
+from .comparing import verify_and_describe_scope, net_tables
 from .exchanging import map_exchanges
 from .gate_text import is_gate_text, read_gates
-from .graph import MAX_TABLE_INPUTS, Graph, graph_of, table_literal
+from .graph import MAX_TABLE_INPUTS, LogicGraph, graph_of_netlist, table_literal
 from .model import LogicNetlist, NetlistError, NetlistFormat
 from .pla import read_pla
 from .qasm import read_qasm
 from .real import read_real
-from .reversible import LineNetlist
+from .reversible import ReversibleNetlist
 from .search import map_graph
 from .unrolling import unrolled_netlist
 from .yosys_json import read_yosys_json
 
-__all__ = ["MappedNetlist", "NetlistError", "NetlistFormat", "ReadingOptions", "circuit_text_from_netlist",
-           "map_netlist", "map_parsed_netlist", "netlist_format", "read_netlist"]
+__all__ = ["MappedNetlist", "NetlistError", "NetlistFormat", "ReadingOptions", "circuit_text_from_netlist_text",
+           "guessed_netlist_format", "map_netlist", "map_parsed_netlist", "read_netlist"]
 
 MAX_NETLIST_BYTES = 16_777_216
 # The most outputs of a netlist whose tables are tried.
-MAX_TABLE_OUTPUTS = 16
+MAX_OUTPUTS_MAPPED_BY_TABLE = 16
 # How much of a text is looked at to find its format.
 HEAD_CHARACTERS = 1_000_000
 # Some editors put these bytes before a text; each is a character here.
@@ -79,7 +79,7 @@ class MappedNetlist:
     circuit: Circuit
 
 
-def netlist_format(text: str) -> NetlistFormat | None:
+def guessed_netlist_format(text: str) -> NetlistFormat | None:
     """Returns the format of a netlist by its first characters and its lines, or None if the text is no netlist."""
     if is_gate_text(text):
         return NetlistFormat.GATES
@@ -116,7 +116,7 @@ def read_netlist(text: str, form: NetlistFormat | None = None) -> LogicNetlist:
     if len(text) > MAX_NETLIST_BYTES:
         raise NetlistError(f"The netlist is longer than {MAX_NETLIST_BYTES} bytes.")
     text = text.removeprefix(BYTE_ORDER_MARK)
-    form = form or netlist_format(text)
+    form = form or guessed_netlist_format(text)
     if form is None:
         raise NetlistError("The text is none of the netlists that are read: BLIF, the JSON of yosys, RevLib's .real, "
                            "OpenQASM, PLA, AIGER and gates.")
@@ -132,15 +132,15 @@ def map_netlist(text: str, form: NetlistFormat | None = None,
 def map_parsed_netlist(netlist: LogicNetlist, reading: ReadingOptions = ReadingOptions()) -> MappedNetlist:
     """Maps a netlist that was read, as `map_netlist` does."""
     netlist = unrolled_netlist(netlist, reading.cycles, reading.has_state_ports)
-    if isinstance(netlist, LineNetlist) and netlist.exchanges_if_all is not None:
+    if isinstance(netlist, ReversibleNetlist) and netlist.exchanges_if_all is not None:
         found = map_exchanges(netlist)
     else:
         found = cheapest_circuit(netlist)
-    text = text_of_section(found.circuit)
+    text = section_text_with_limits(found.circuit)
     document = read_document(text, "circuit")
     if document.circuit is None or document.refusal is not None:
         raise NetlistError(f"The mapped circuit is wrong: {document.refusal}.")
-    scope = require_agreement(netlist, document.circuit)
+    scope = verify_and_describe_scope(netlist, document.circuit)
     notes = [*netlist.notes, *found.notes, f"The circuit has the outputs of the netlist in {scope}."]
     return MappedNetlist(text, notes, document.circuit)
 
@@ -151,12 +151,12 @@ def cheapest_circuit(netlist: LogicNetlist) -> NamedCircuit:
 
     Networks of reversible gates often make values that no output needs, so that their tables are simpler than they are.
     """
-    found = map_graph(graph_of(netlist))
-    if len(netlist.inputs) > MAX_TABLE_INPUTS or len(netlist.outputs_with_nets) > MAX_TABLE_OUTPUTS:
+    found = map_graph(graph_of_netlist(netlist))
+    if len(netlist.inputs) > MAX_TABLE_INPUTS or len(netlist.outputs_with_nets) > MAX_OUTPUTS_MAPPED_BY_TABLE:
         return found
     full = (1 << (1 << len(netlist.inputs))) - 1
     tables = net_tables(netlist, dict(zip(netlist.inputs, input_tables(len(netlist.inputs)))), full)
-    graph = Graph(netlist.inputs)
+    graph = LogicGraph(netlist.inputs)
     literals = [2 * at + 2 for at in range(len(netlist.inputs))]
     graph.outputs = [(name, table_literal(graph, tables[net], literals)) for name, net in netlist.outputs_with_nets]
     if len(graph.needed_nodes()) > 2 * len(found.circuit.gates):
@@ -164,6 +164,6 @@ def cheapest_circuit(netlist: LogicNetlist) -> NamedCircuit:
     return min(found, map_graph(graph), key=NamedCircuit.cost)
 
 
-def circuit_text_from_netlist(text: str) -> str:
+def circuit_text_from_netlist_text(text: str) -> str:
     """Returns the circuit section for a netlist. Raises NetlistError as `map_netlist` does."""
     return map_netlist(text).text

@@ -7,7 +7,8 @@ from dataclasses import replace
 
 from .model import MAX_NODES, CellType, CellNode, Latch, LogicNetlist, NetlistError, TableNode
 
-HEADER = re.compile(r"(aag|aig) ([0-9]{1,9}) ([0-9]{1,9}) ([0-9]{1,9}) ([0-9]{1,9}) ([0-9]{1,9})((?: [0-9]{1,9})*)\n")
+HEADER_PATTERN = re.compile(
+    r"(aag|aig) ([0-9]{1,9}) ([0-9]{1,9}) ([0-9]{1,9}) ([0-9]{1,9}) ([0-9]{1,9})((?: [0-9]{1,9})*)\n")
 SYMBOL_LINE = re.compile(r"^([ilo])([0-9]{1,9}) (.+)$", re.MULTILINE)
 
 
@@ -15,7 +16,7 @@ class AigerReader:
     """Reads a file, of which each byte is a character."""
 
     def __init__(self, text: str) -> None:
-        head = HEADER.match(text)
+        head = HEADER_PATTERN.match(text)
         if head is None:
             raise NetlistError("Line 1: the header of AIGER is `aag M I L O A` or `aig M I L O A`.")
         self.is_binary = head[1] == "aig"
@@ -72,7 +73,7 @@ class AigerReader:
         latches = [self.next_latch(at) for at in range(self.latch_count)]
         outputs = [self.next_numbers(1)[0] for _ in range(self.output_count)]
         gates = [self.next_numbers(3)
-                 for _ in range(self.and_count)] if not self.is_binary else self.read_binary_gates()
+                 for _ in range(self.and_count)] if not self.is_binary else self.binary_gate_literals()
         names = {(found[1], int(found[2])): found[3]
                  for found in SYMBOL_LINE.finditer(self.text[self.at:].split("\nc\n")[0])
                  if int(found[2]) < MAX_NODES}
@@ -104,7 +105,7 @@ class AigerReader:
             raise NetlistError(f"Line {self.line - 1}: the first value of a latch is 0, 1 or the latch itself.")
         return literal, follower, start[0] if start else 0
 
-    def read_binary_gates(self) -> list[list[int]]:
+    def binary_gate_literals(self) -> list[list[int]]:
         """Returns the AND gates of a binary file."""
         gates = []
         for at in range(self.and_count):

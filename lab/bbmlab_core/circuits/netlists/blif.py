@@ -27,7 +27,7 @@ TABLE_ROW = re.compile(r"[01-]*\Z")
 NumberedWords = tuple[int, list[str]]
 
 
-def word_lines(text: str) -> Iterator[NumberedWords]:
+def numbered_word_lines(text: str) -> Iterator[NumberedWords]:
     """Yields the number and the words of each line that has words. A backslash at its end joins a line to the next one.
     """
     words: list[str] = []
@@ -124,7 +124,7 @@ class BlifReader:
                                         value))
         self.table, self.rows = None, []
 
-    def finish(self) -> LogicNetlist:
+    def finish_netlist(self) -> LogicNetlist:
         """Returns the netlist after its last line."""
         self.end_table()
         inputs = self.netlist.inputs
@@ -144,9 +144,9 @@ class BlifReader:
 def read_blif(text: str) -> LogicNetlist:
     """Returns the netlist of a BLIF text. Raises NetlistError at the first line that is not read."""
     reader = BlifReader()
-    for number, words in word_lines(text):
+    for number, words in numbered_word_lines(text):
         if words[0] == ".end":
             reader.end_table()
             continue
         reader.read_line(number, words)
-    return reader.finish()
+    return reader.finish_netlist()

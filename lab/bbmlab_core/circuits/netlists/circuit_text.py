@@ -4,8 +4,8 @@ from collections import Counter
 from dataclasses import dataclass
 
 from ...texts.circuits import Circuit, Gate
-from .graph import Graph
-from .mapping import GARBAGE_COST, GATE_COSTS, NumberedGate, Wire, MappedGates
+from .graph import LogicGraph
+from .mapping import GARBAGE_COST, GATE_COSTS, GateWithWireNumbers, WireNumber, MappedGates
 from .naming import NameBook
 
 
@@ -22,9 +22,9 @@ class NamedCircuit:
         return (sum(cost * counts[kind] for kind, cost in GATE_COSTS.items()) + GARBAGE_COST * len(self.circuit.spills))
 
 
-def named_circuit(graph: Graph, wiring: MappedGates) -> NamedCircuit:
+def named_circuit(graph: LogicGraph, wiring: MappedGates) -> NamedCircuit:
     """Returns the circuit of a wiring, with a name for each wire."""
-    book, names, gates = NameBook(), dict[Wire, str](), list(wiring.gates)
+    book, names, gates = NameBook(), dict[WireNumber, str](), list(wiring.gates)
     inputs = [book.fresh_port_name(name) for name in graph.input_names]
     names.update(enumerate(inputs))
     next_wire = 1 + max([len(inputs) - 1, *(wire for gate in gates for wire in gate.outs)])
@@ -32,7 +32,7 @@ def named_circuit(graph: Graph, wiring: MappedGates) -> NamedCircuit:
     for (wanted, _), wire in zip(graph.outputs, wiring.outputs):
         if wire < len(inputs):
             # An input that goes straight to an output: a delay gives it the name of the output.
-            gates.append(NumberedGate("delay", 1, [wire], [next_wire]))
+            gates.append(GateWithWireNumbers("delay", 1, [wire], [next_wire]))
             wire, next_wire = next_wire, next_wire + 1
         names[wire] = book.fresh_port_name(wanted)
         outputs.append(names[wire])

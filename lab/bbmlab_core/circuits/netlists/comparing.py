@@ -1,6 +1,6 @@
 """Compares a netlist with the circuit to which it was mapped, by values of both under the same inputs."""
 
-from ...texts.circuits import Circuit, evaluate_under, sampled_tables
+from ...texts.circuits import Circuit, evaluate_under_tables, sampled_tables
 from ...texts.gates import input_tables
 from .model import CellType, CellNode, LogicNetlist, NetlistError, TableNode
 
@@ -8,10 +8,10 @@ from .model import CellType, CellNode, LogicNetlist, NetlistError, TableNode
 MAX_EXHAUSTIVE_INPUTS = 16
 SAMPLE_COUNT = 4096
 
-Table = int
+TruthTable = int
 
 
-def cell_table(cell: CellType, full: Table, ins: list[Table]) -> Table:
+def cell_table(cell: CellType, full: TruthTable, ins: list[TruthTable]) -> TruthTable:
     """Returns the table of a simple cell of yosys."""
     a, b, c, d = (ins + [0, 0, 0])[:4]
     values = {
@@ -25,7 +25,7 @@ def cell_table(cell: CellType, full: Table, ins: list[Table]) -> Table:
     return values[cell] & full
 
 
-def node_table(node: TableNode, full: Table, ins: list[Table]) -> Table:
+def table_of_table_node(node: TableNode, full: TruthTable, ins: list[TruthTable]) -> TruthTable:
     """Returns the table of a node with rows."""
     fits = 0
     for row in node.rows:
@@ -36,17 +36,17 @@ def node_table(node: TableNode, full: Table, ins: list[Table]) -> Table:
     return fits if node.value else full & ~fits
 
 
-def net_tables(netlist: LogicNetlist, tables: dict[str, Table], full: Table) -> dict[str, Table]:
+def net_tables(netlist: LogicNetlist, tables: dict[str, TruthTable], full: TruthTable) -> dict[str, TruthTable]:
     """Returns the table of each net on which outputs depend, from those of the inputs."""
     found = dict(tables)
     for node in netlist.needed_nodes_in_order():
         ins = [found[net] for net in node.inputs]
         found[node.output] = (cell_table(node.cell_type, full, ins) if isinstance(node, CellNode)
-                              else node_table(node, full, ins))
+                              else table_of_table_node(node, full, ins))
     return found
 
 
-def require_agreement(netlist: LogicNetlist, circuit: Circuit) -> str:
+def verify_and_describe_scope(netlist: LogicNetlist, circuit: Circuit) -> str:
     """Returns in which inputs the circuit has the outputs of the netlist, in words.
 
     Raises NetlistError where it has others.
@@ -61,7 +61,7 @@ def require_agreement(netlist: LogicNetlist, circuit: Circuit) -> str:
         columns = sampled_tables(netlist.inputs, SAMPLE_COUNT)
     theirs = net_tables(netlist, columns, full)
     mine = {name: columns[net] for name, net in zip(circuit.inputs, netlist.inputs)}
-    own = evaluate_under(circuit, mine, full, range(len(circuit.gates)))
+    own = evaluate_under_tables(circuit, mine, full, range(len(circuit.gates)))
     for name, (port, net) in zip(circuit.outputs, netlist.outputs_with_nets):
         if own.defined_columns != full or own.tables[name] != theirs[net]:
             raise NetlistError(f"The mapped circuit is wrong: its output `{name}` is not always `{port}` of the "

@@ -120,10 +120,10 @@ class GateReader:
         """Adds the cells that join some wires, as a tree of small depth."""
         level = list(ins)
         while len(level) > 2:
-            level = [self.add_inner_cell(inner, level[at:at + 2]) for at in range(0, len(level), 2)]
+            level = [self.join_pair_of_nets(inner, level[at:at + 2]) for at in range(0, len(level), 2)]
         self.netlist.add_node(CellNode(out, last, tuple(level)))
 
-    def add_inner_cell(self, cell: CellType, pair: list[str]) -> str:
+    def join_pair_of_nets(self, cell: CellType, pair: list[str]) -> str:
         """Returns the net of a cell over two wires, or the one that is left."""
         if len(pair) == 1:
             return pair[0]

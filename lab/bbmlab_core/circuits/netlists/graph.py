@@ -18,12 +18,12 @@ MAX_TABLE_INPUTS = 8
 # How far a product is followed to find that two products exclude each other.
 CONJUNCT_DEPTH = 3
 
-Literal = int
-FALSE: Literal = 0
-TRUE: Literal = 1
+NodeLiteral = int
+FALSE: NodeLiteral = 0
+TRUE: NodeLiteral = 1
 
 
-class Kind(Enum):
+class NodeKind(Enum):
     """The kinds of nodes."""
 
     CONSTANT = "constant"
@@ -38,20 +38,20 @@ class Kind(Enum):
 class GraphNode:
     """A node: its kind and the literals of its inputs. The inputs of a XOR node are not inverted."""
 
-    kind: Kind
-    inputs: tuple[Literal, ...]
+    kind: NodeKind
+    inputs: tuple[NodeLiteral, ...]
 
 
-class Graph:
+class LogicGraph:
     """Nodes, each made once. `outputs` are pairs of a name and a literal."""
 
     def __init__(self, inputs: list[str]) -> None:
         self.input_names = inputs
-        self.nodes = [GraphNode(Kind.CONSTANT, ())] + [GraphNode(Kind.INPUT, ()) for _ in inputs]
+        self.nodes = [GraphNode(NodeKind.CONSTANT, ())] + [GraphNode(NodeKind.INPUT, ()) for _ in inputs]
         self.numbers: dict[GraphNode, int] = {}
-        self.outputs: list[tuple[str, Literal]] = []
+        self.outputs: list[tuple[str, NodeLiteral]] = []
 
-    def make_literal(self, kind: Kind, *inputs: Literal) -> Literal:
+    def make_literal(self, kind: NodeKind, *inputs: NodeLiteral) -> NodeLiteral:
         """Returns the literal of a node, which is made if there is none."""
         node = GraphNode(kind, inputs)
         if node not in self.numbers:
@@ -62,34 +62,34 @@ class Graph:
             self.nodes.append(node)
         return 2 * self.numbers[node]
 
-    def known_and(self, left: Literal, right: Literal) -> Literal | None:
+    def known_and(self, left: NodeLiteral, right: NodeLiteral) -> NodeLiteral | None:
         """Returns the literal of an AND node if there is one."""
-        number = self.numbers.get(GraphNode(Kind.AND, (min(left, right), max(left, right))))
+        number = self.numbers.get(GraphNode(NodeKind.AND, (min(left, right), max(left, right))))
         return None if number is None else 2 * number
 
-    def has_xor(self, left: Literal, right: Literal) -> bool:
+    def has_xor(self, left: NodeLiteral, right: NodeLiteral) -> bool:
         """Whether there is a XOR node over two literals, inverted or not."""
-        return GraphNode(Kind.XOR, (min(left, right) & ~1, max(left, right) & ~1)) in self.numbers
+        return GraphNode(NodeKind.XOR, (min(left, right) & ~1, max(left, right) & ~1)) in self.numbers
 
-    def and_factors(self, literal: Literal) -> tuple[Literal, Literal] | None:
+    def and_factors(self, literal: NodeLiteral) -> tuple[NodeLiteral, NodeLiteral] | None:
         """Returns the two factors of a literal if it is an AND node that is not inverted."""
         node = self.nodes[literal >> 1]
-        return (node.inputs[0], node.inputs[1]) if node.kind is Kind.AND and not literal & 1 else None
+        return (node.inputs[0], node.inputs[1]) if node.kind is NodeKind.AND and not literal & 1 else None
 
-    def and_(self, left: Literal, right: Literal) -> Literal:
+    def and_(self, left: NodeLiteral, right: NodeLiteral) -> NodeLiteral:
         """Returns "left and right"."""
-        simpler: tuple[Literal, Literal] | None = (left, right)
+        simpler: tuple[NodeLiteral, NodeLiteral] | None = (left, right)
         while simpler:
             left, right = min(simpler), max(simpler)
             if left == FALSE or left == right ^ 1:
                 return FALSE
             if left in (TRUE, right):
                 return right
-            simpler = self._absorption(left, right) or self._absorption(right, left)
+            simpler = self._absorbed_pair(left, right) or self._absorbed_pair(right, left)
         joined = self._join_of_inverses(left, right) if left & 1 and right & 1 else None
-        return self.make_literal(Kind.AND, left, right) if joined is None else joined ^ 1
+        return self.make_literal(NodeKind.AND, left, right) if joined is None else joined ^ 1
 
-    def _absorption(self, one: Literal, other: Literal) -> tuple[Literal, Literal] | None:
+    def _absorbed_pair(self, one: NodeLiteral, other: NodeLiteral) -> tuple[NodeLiteral, NodeLiteral] | None:
         """Returns two literals whose AND is a simpler form of "one and other" where `other` depends on the value of
         `one`."""
         factors, inverse_factors = self.and_factors(other), self.and_factors(other ^ 1)
@@ -103,22 +103,22 @@ class Graph:
             rest = inverse_factors[1 - inverse_factors.index(one)]
             return one, rest ^ 1
         node = self.nodes[other >> 1]
-        if node.kind is Kind.XOR and one & ~1 in node.inputs:
+        if node.kind is NodeKind.XOR and one & ~1 in node.inputs:
             rest = node.inputs[1 - node.inputs.index(one & ~1)]
             return one, rest ^ (other & 1) ^ (~one & 1)
         return None
 
-    def _join_of_inverses(self, left: Literal, right: Literal) -> Literal | None:
+    def _join_of_inverses(self, left: NodeLiteral, right: NodeLiteral) -> NodeLiteral | None:
         """Returns the literal of the join whose inverse "left and right" is, if the inverses of both exclude each
         other."""
         first, second = self.implied_literals(left ^ 1), self.implied_literals(right ^ 1)
         common = sorted(literal for literal in first if literal ^ 1 in second)
         if not common or not (self.and_factors(left ^ 1) and self.and_factors(right ^ 1)):
             return None
-        select = next((literal for literal in common if self.nodes[literal >> 1].kind is Kind.XOR), common[0])
+        select = next((literal for literal in common if self.nodes[literal >> 1].kind is NodeKind.XOR), common[0])
         return self._make_join(select, left ^ 1, right ^ 1)
 
-    def _make_join(self, select: Literal, high: Literal, low: Literal) -> Literal:
+    def _make_join(self, select: NodeLiteral, high: NodeLiteral, low: NodeLiteral) -> NodeLiteral:
         """Returns "high or low", where `high` implies `select` and `low` excludes it."""
         factors = self.and_factors(high), self.and_factors(low)
         if all(factors) and factors[0] and factors[1]:
@@ -127,9 +127,9 @@ class Graph:
                 return self.xor(select, next(iter(seconds)))
         if select & 1:
             select, high, low = select ^ 1, low, high
-        return self.make_literal(Kind.JOIN, select, high, low)
+        return self.make_literal(NodeKind.JOIN, select, high, low)
 
-    def implied_literals(self, literal: Literal) -> set[Literal]:
+    def implied_literals(self, literal: NodeLiteral) -> set[NodeLiteral]:
         """Returns literals that are true if `literal` is, among them those of XOR nodes over pairs of them."""
         found, level = {literal}, [literal]
         for _ in range(CONJUNCT_DEPTH):
@@ -138,24 +138,24 @@ class Graph:
         plain = sorted(found)[:16]
         for index, left in enumerate(plain):
             for right in plain[:index]:
-                number = self.numbers.get(GraphNode(Kind.XOR, (min(left, right) & ~1, max(left, right) & ~1)))
+                number = self.numbers.get(GraphNode(NodeKind.XOR, (min(left, right) & ~1, max(left, right) & ~1)))
                 if number is not None:
                     # Both literals are true, so their XOR is 0, and inversions of the two change it.
                     found.add(2 * number + 1 ^ (left & 1) ^ (right & 1))
         return found
 
-    def or_(self, left: Literal, right: Literal) -> Literal:
+    def or_(self, left: NodeLiteral, right: NodeLiteral) -> NodeLiteral:
         """Returns "left or right"."""
         return self.and_(left ^ 1, right ^ 1) ^ 1
 
-    def xor(self, left: Literal, right: Literal) -> Literal:
+    def xor(self, left: NodeLiteral, right: NodeLiteral) -> NodeLiteral:
         """Returns "left or right, and not both"."""
         inverted, (left, right) = (left ^ right) & 1, sorted((left & ~1, right & ~1))
         if left == right:
             return FALSE ^ inverted
-        return (right if left == FALSE else self.make_literal(Kind.XOR, left, right)) ^ inverted
+        return (right if left == FALSE else self.make_literal(NodeKind.XOR, left, right)) ^ inverted
 
-    def mux(self, select: Literal, high: Literal, low: Literal) -> Literal:
+    def mux(self, select: NodeLiteral, high: NodeLiteral, low: NodeLiteral) -> NodeLiteral:
         """Returns `high` if `select` is true, else `low`."""
         if high == low:
             return high
@@ -177,7 +177,7 @@ class Graph:
         return sorted(needed)
 
 
-def table_literal(graph: Graph, table: int, literals: list[Literal]) -> Literal:
+def table_literal(graph: LogicGraph, table: int, literals: list[NodeLiteral]) -> NodeLiteral:
     """Returns the literal of a table: bit A is its value at the assignment A, in which bit I is the value of literal I.
     """
     count = len(literals)
@@ -206,7 +206,7 @@ def table_literal(graph: Graph, table: int, literals: list[Literal]) -> Literal:
     return shannon_literal(graph, halves, literals) if symmetric is None else symmetric
 
 
-def literal_by_symmetric_pair(graph: Graph, table: int, literals: list[Literal]) -> Literal | None:
+def literal_by_symmetric_pair(graph: LogicGraph, table: int, literals: list[NodeLiteral]) -> NodeLiteral | None:
     """Returns the literal of a table that treats two of its inputs alike, by the XOR of the two, as in a majority; else
     None."""
     count = len(literals)
@@ -222,15 +222,15 @@ def literal_by_symmetric_pair(graph: Graph, table: int, literals: list[Literal])
     return None
 
 
-def shannon_literal(graph: Graph, halves: list[tuple[tuple[int, int], list[Literal]]],
-                    literals: list[Literal]) -> Literal:
+def shannon_literal(graph: LogicGraph, halves: list[tuple[tuple[int, int], list[NodeLiteral]]],
+                    literals: list[NodeLiteral]) -> NodeLiteral:
     """Returns the literal of a table as a choice by the input that leaves the fewest inputs to its two halves."""
-    def weight(index: int) -> int:
+    def dependent_input_count(index: int) -> int:
         """Returns on how many inputs the two halves depend."""
         (low, high), rest = halves[index]
         return sum(cofactor_table(half, other, len(rest), False) != cofactor_table(half, other, len(rest), True)
                    for half in (low, high) for other in range(len(rest)))
-    best = min(range(len(literals)), key=weight)
+    best = min(range(len(literals)), key=dependent_input_count)
     (low, high), rest = halves[best]
     return graph.mux(literals[best], table_literal(graph, high, rest), table_literal(graph, low, rest))
 
@@ -256,7 +256,7 @@ def table_of_rows(rows: tuple[str, ...], count: int) -> int:
     return table
 
 
-def balanced_tree(graph: Graph, literals: list[Literal], is_product: bool) -> Literal:
+def balanced_tree_literal(graph: LogicGraph, literals: list[NodeLiteral], is_product: bool) -> NodeLiteral:
     """Returns the product or the sum of literals, as a tree of small depth."""
     level = literals or [TRUE if is_product else FALSE]
     make = graph.and_ if is_product else graph.or_
@@ -265,7 +265,7 @@ def balanced_tree(graph: Graph, literals: list[Literal], is_product: bool) -> Li
     return level[0]
 
 
-def table_node_literal(graph: Graph, node: TableNode, inputs: list[Literal]) -> Literal:
+def table_node_literal(graph: LogicGraph, node: TableNode, inputs: list[NodeLiteral]) -> NodeLiteral:
     """Returns the literal of a table node."""
     inverted = not node.value
     if len(inputs) <= MAX_TABLE_INPUTS:
@@ -273,15 +273,15 @@ def table_node_literal(graph: Graph, node: TableNode, inputs: list[Literal]) -> 
     products = []
     for row in node.rows:
         factors = [literal ^ (sign == "0") for sign, literal in zip(row, inputs) if sign != "-"]
-        products.append(balanced_tree(graph, factors, True))
-    return balanced_tree(graph, products, False) ^ inverted
+        products.append(balanced_tree_literal(graph, factors, True))
+    return balanced_tree_literal(graph, products, False) ^ inverted
 
 
-def cell_literal(graph: Graph, cell: CellType, inputs: list[Literal]) -> Literal:
+def cell_literal(graph: LogicGraph, cell: CellType, inputs: list[NodeLiteral]) -> NodeLiteral:
     """Returns the literal of a simple cell, by the rules of the cell library of yosys."""
     first, second, third, fourth = (inputs + [FALSE] * 3)[:4]
     both, one = (graph.and_, graph.or_)
-    rules: dict[CellType, Callable[[], Literal]] = {
+    rules: dict[CellType, Callable[[], NodeLiteral]] = {
         CellType.BUF: lambda: first, CellType.NOT: lambda: first ^ 1,
         CellType.AND: lambda: both(first, second), CellType.NAND: lambda: both(first, second) ^ 1,
         CellType.OR: lambda: one(first, second), CellType.NOR: lambda: one(first, second) ^ 1,
@@ -297,12 +297,12 @@ def cell_literal(graph: Graph, cell: CellType, inputs: list[Literal]) -> Literal
     return rules[cell]()
 
 
-def graph_of(netlist: LogicNetlist) -> Graph:
+def graph_of_netlist(netlist: LogicNetlist) -> LogicGraph:
     """Returns the graph of a netlist.
 
     Raises NetlistError at a loop, at a net without a driver, and where the logic is too large.
     """
-    graph = Graph(netlist.inputs)
+    graph = LogicGraph(netlist.inputs)
     literals = {name: 2 * (index + 1) for index, name in enumerate(netlist.inputs)}
     for node in netlist.needed_nodes_in_order():
         inputs = [literals[name] for name in node.inputs]

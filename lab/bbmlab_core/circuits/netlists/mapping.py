@@ -11,7 +11,7 @@ import random
 from dataclasses import dataclass, field
 from typing import Callable
 
-from .graph import FALSE, TRUE, Graph, Kind, Literal
+from .graph import FALSE, TRUE, LogicGraph, NodeKind, NodeLiteral
 
 # What a gate and a wire cost: a switch cell of 20 by 20 cells is 1.
 GATE_COSTS = {"switch": 1.0, "unswitch": 1.0, "interact": 0.8, "fredkin": 4.0, "source": 0.5, "delay": 0.2}
@@ -23,19 +23,19 @@ DEPTH_COST = 0.05
 MAX_NOISE = 0.8
 MAX_WAYS_PER_NODE = 10
 
-Wire = int
+WireNumber = int
 # The cost of a way to map a node, its name in `MAP_METHODS`, and the literals in the order that it takes.
-Way = tuple[float, str, tuple[Literal, ...]]
+MappingWay = tuple[float, str, tuple[NodeLiteral, ...]]
 
 
 @dataclass
-class NumberedGate:
+class GateWithWireNumbers:
     """A gate with numbers of wires. `joined_node` is the node that an inverse gate joins."""
 
     gate_kind: str
     parameter: int | None
-    ins: list[Wire]
-    outs: list[Wire]
+    ins: list[WireNumber]
+    outs: list[WireNumber]
     joined_node: int | None = None
 
 
@@ -43,13 +43,13 @@ class NumberedGate:
 class MappedGates:
     """Gates in order, the wires of the outputs, and the wires that nothing uses."""
 
-    gates: list[NumberedGate] = field(default_factory=list)
-    outputs: list[Wire] = field(default_factory=list)
-    garbage: list[Wire] = field(default_factory=list)
+    gates: list[GateWithWireNumbers] = field(default_factory=list)
+    outputs: list[WireNumber] = field(default_factory=list)
+    garbage: list[WireNumber] = field(default_factory=list)
 
     def cost(self) -> float:
         """Returns the cost of the gates, the garbage and the depth."""
-        depths: dict[Wire, int] = {}
+        depths: dict[WireNumber, int] = {}
         for gate in self.gates:
             depth = 1 + max((depths.get(wire, 0) for wire in gate.ins), default=-1)
             depths.update((wire, depth) for wire in gate.outs)
@@ -58,7 +58,7 @@ class MappedGates:
 
 
 @dataclass
-class Preferences:
+class MappingPreferences:
     """What decides the order of the nodes, and between ways of nearly equal cost: a rank and some noise for each node.
     """
 
@@ -66,16 +66,16 @@ class Preferences:
     noise: dict[int, list[float]]
 
     @classmethod
-    def at_random(cls, graph: Graph, chooser: random.Random) -> "Preferences":
+    def at_random(cls, graph: LogicGraph, chooser: random.Random) -> "MappingPreferences":
         """Returns random preferences. XOR nodes come rather early, since they make products too."""
         needed = graph.needed_nodes()
-        ranks = {number: chooser.random() + (graph.nodes[number].kind is not Kind.XOR) * chooser.choice((0, 1))
+        ranks = {number: chooser.random() + (graph.nodes[number].kind is not NodeKind.XOR) * chooser.choice((0, 1))
                  for number in needed}
         return cls(ranks, {number: [chooser.random() for _ in range(MAX_WAYS_PER_NODE)] for number in needed})
 
-    def with_small_change(self, chooser: random.Random) -> "Preferences":
+    def with_small_change(self, chooser: random.Random) -> "MappingPreferences":
         """Returns preferences that differ for one to three nodes."""
-        new = Preferences(dict(self.ranks), dict(self.noise))
+        new = MappingPreferences(dict(self.ranks), dict(self.noise))
         for _ in range(chooser.choice((1, 1, 2, 3))):
             number = chooser.choice(list(new.ranks))
             if chooser.random() < 0.5:
@@ -90,11 +90,11 @@ class Preferences:
 class Mapper:
     """One try to map the nodes."""
 
-    def __init__(self, graph: Graph, separate: frozenset[int], preferences: Preferences) -> None:
+    def __init__(self, graph: LogicGraph, separate: frozenset[int], preferences: MappingPreferences) -> None:
         self.graph, self.separate, self.preferences = graph, separate, preferences
         self.wiring = MappedGates()
         self.wire_count = len(graph.input_names)
-        self.pool: dict[Literal, list[Wire]] = {}
+        self.pool: dict[NodeLiteral, list[WireNumber]] = {}
         self.needed = graph.needed_nodes()
         self.mapped = {number for number in range(1, len(graph.input_names) + 1)}
         self.uses: dict[int, int] = {}
@@ -106,7 +106,7 @@ class Mapper:
             self.uses[literal >> 1] = self.uses.get(literal >> 1, 0) + 1
             self.true_uses[literal >> 1] = self.true_uses.get(literal >> 1, 0) + 1 - (literal & 1)
 
-    def run(self) -> MappedGates:
+    def map_needed_nodes(self) -> MappedGates:
         """Maps all needed nodes and the outputs."""
         for number in self.node_order():
             if number not in self.mapped:
@@ -133,7 +133,7 @@ class Mapper:
         for literal in node.inputs:
             self.uses[literal >> 1] -= 1
         self.mapped.add(number)
-        makers = {Kind.AND: self.and_ways, Kind.XOR: self.xor_ways, Kind.JOIN: self.join_ways}
+        makers = {NodeKind.AND: self.and_ways, NodeKind.XOR: self.xor_ways, NodeKind.JOIN: self.join_ways}
         ways = makers[node.kind](number, node.inputs)
         noise = self.preferences.noise[number]
         _, index = min((way[0] + MAX_NOISE * noise[index], index) for index, way in enumerate(ways))
@@ -141,34 +141,34 @@ class Mapper:
 
     # ---- pools of wires
 
-    def add_gate(self, word: str, parameter: int | None, ins: list[Wire], count: int,
-                 node: int | None = None) -> list[Wire]:
+    def add_gate(self, word: str, parameter: int | None, ins: list[WireNumber], count: int,
+                 node: int | None = None) -> list[WireNumber]:
         """Adds a gate with `count` outputs, and returns these."""
         outs = list(range(self.wire_count, self.wire_count + count))
         self.wire_count += count
-        self.wiring.gates.append(NumberedGate(word, parameter, ins, outs, node))
+        self.wiring.gates.append(GateWithWireNumbers(word, parameter, ins, outs, node))
         return outs
 
-    def add_constant(self, literal: Literal) -> Wire:
+    def add_constant(self, literal: NodeLiteral) -> WireNumber:
         """Adds a constant."""
         return self.add_gate("source", int(literal == TRUE), [], 1)[0]
 
-    def pool_of(self, literal: Literal) -> list[Wire]:
+    def pool_of(self, literal: NodeLiteral) -> list[WireNumber]:
         """Returns the pool of a literal."""
         return self.pool.setdefault(literal, [])
 
-    def node_wire_count(self, literal: Literal) -> int:
+    def node_wire_count(self, literal: NodeLiteral) -> int:
         """Returns how many wires carry a literal or its inverse."""
         return len(self.pool_of(literal)) + len(self.pool_of(literal ^ 1))
 
-    def duplicate_wire(self, literal: Literal) -> None:
+    def duplicate_wire(self, literal: NodeLiteral) -> None:
         """Turns a wire of a literal into two, and one of its inverse."""
         first, second, inverse = self.add_gate("switch", None, [self.pool_of(literal).pop(), self.add_constant(TRUE)],
                                                3)
         self.pool[literal] += [first, second]
         self.pool_of(literal ^ 1).append(inverse)
 
-    def take_wire(self, literal: Literal) -> Wire:
+    def take_wire(self, literal: NodeLiteral) -> WireNumber:
         """Takes a wire of a literal out of its pool. One of it or of its inverse stays while there are uses."""
         if not self.pool_of(literal):
             self.duplicate_wire(literal ^ 1)
@@ -176,50 +176,50 @@ class Mapper:
             self.duplicate_wire(literal)
         return self.pool[literal].pop()
 
-    def take_cost(self, literal: Literal, made: int = 0) -> float:
+    def take_cost(self, literal: NodeLiteral, made: int = 0) -> float:
         """Returns what `take` costs if `made` uses of the literal go, since their products are made by the same gate.
         """
         is_free = self.pool_of(literal) and (self.node_wire_count(literal) > 1 or self.uses[literal >> 1] <= made)
         return 0 if is_free else COPY_COST
 
-    def borrow_wire(self, literal: Literal) -> tuple[Literal, Wire]:
+    def borrow_wire_or_inverse(self, literal: NodeLiteral) -> tuple[NodeLiteral, WireNumber]:
         """Takes a wire of a literal or of its inverse, and says which. The caller gives it back."""
         found = literal if self.pool_of(literal) else literal ^ 1
         return found, self.pool[found].pop()
 
-    def release_wire(self, literal: Literal | None, wire: Wire) -> None:
+    def release_wire(self, literal: NodeLiteral | None, wire: WireNumber) -> None:
         """Adds a wire to the pool of a literal, or to the garbage if no node has its value."""
         if literal is None:
             self.wiring.garbage.append(wire)
         else:
             self.pool_of(literal).append(wire)
 
-    def claim_product(self, left: Literal, right: Literal) -> Literal | None:
+    def claim_product(self, left: NodeLiteral, right: NodeLiteral) -> NodeLiteral | None:
         """Returns the literal of a product that the next gate makes.
 
         A needed node is mapped by it, so it no longer uses its inputs.
         """
         literal = self.graph.known_and(left, right)
-        if literal is not None and self.is_wanted(literal):
+        if literal is not None and self.needs_mapping(literal):
             self.mapped.add(literal >> 1)
             for used in self.graph.nodes[literal >> 1].inputs:
                 self.uses[used >> 1] -= 1
         return literal
 
-    def is_wanted(self, literal: Literal | None) -> bool:
+    def needs_mapping(self, literal: NodeLiteral | None) -> bool:
         """Whether a literal is that of a needed node that is not mapped yet."""
         return literal is not None and literal >> 1 not in self.mapped and self.uses.get(literal >> 1, 0) > 0
 
-    def product_worth(self, left: Literal, right: Literal) -> int:
+    def product_worth(self, left: NodeLiteral, right: NodeLiteral) -> int:
         """Returns what a product that comes for nothing is worth: the cost of a `switch`, 1, if it is wanted, else 0.
         """
-        return int(self.is_wanted(self.graph.known_and(left, right)))
+        return int(self.needs_mapping(self.graph.known_and(left, right)))
 
     # ---- AND
 
-    def and_ways(self, number: int, inputs: tuple[Literal, ...]) -> list[Way]:
+    def and_ways(self, number: int, inputs: tuple[NodeLiteral, ...]) -> list[MappingWay]:
         """Returns the ways to map an AND node."""
-        ways: list[Way] = []
+        ways: list[MappingWay] = []
         for control, other in (inputs, inputs[::-1]):
             inversion = COPY_COST if not self.true_uses.get(number, 0) else 0.0
             gain = self.product_worth(control ^ 1, other)
@@ -235,18 +235,18 @@ class Mapper:
             ways.append((GATE_COSTS["interact"] + takes - saved, "meeting", inputs))
         return ways
 
-    def map_and_by_switch(self, number: int, control: Literal, other: Literal) -> None:
+    def map_and_by_switch(self, number: int, control: NodeLiteral, other: NodeLiteral) -> None:
         """Maps "control and other" by a switch. The control may be inverted."""
         second = self.claim_product(control ^ 1, other)
         wire = self.take_wire(other)
-        found, select = self.borrow_wire(control)
+        found, select = self.borrow_wire_or_inverse(control)
         again, high, low = self.add_gate("switch", None, [select, wire], 3)
         product, rest = (high, low) if found == control else (low, high)
         self.pool_of(found).append(again)
         self.pool_of(2 * number).append(product)
         self.release_wire(second, rest)
 
-    def map_and_by_interact(self, number: int, left: Literal, right: Literal) -> None:
+    def map_and_by_interact(self, number: int, left: NodeLiteral, right: NodeLiteral) -> None:
         """Maps "left and right" by an interaction, which makes it twice."""
         second, third = self.claim_product(left ^ 1, right), self.claim_product(left, right ^ 1)
         both, right_alone, left_alone, again = self.add_gate("interact", None,
@@ -255,13 +255,13 @@ class Mapper:
         self.release_wire(second, right_alone)
         self.release_wire(third, left_alone)
 
-    def map_or_by_switch(self, number: int, control: Literal, other: Literal) -> None:
+    def map_or_by_switch(self, number: int, control: NodeLiteral, other: NodeLiteral) -> None:
         """Maps the inverse of an AND node, "control or other", by a switch and a join."""
         product = self.claim_product(control, other)
         if self.node_wire_count(control) < 2 or not self.pool_of(control):
             self.duplicate_wire(control if self.pool_of(control) else control ^ 1)
         wire, first = self.take_wire(other), self.pool[control].pop()
-        found, select = self.borrow_wire(control)
+        found, select = self.borrow_wire_or_inverse(control)
         again, high, low = self.add_gate("switch", None, [select, wire], 3)
         rest, without = (high, low) if found == control else (low, high)
         parts = [first, without] if found == control else [without, first]
@@ -272,11 +272,11 @@ class Mapper:
 
     # ---- XOR
 
-    def xor_ways(self, number: int, inputs: tuple[Literal, ...]) -> list[Way]:
+    def xor_ways(self, number: int, inputs: tuple[NodeLiteral, ...]) -> list[MappingWay]:
         """Returns the ways to map a XOR node."""
         if number in self.separate:
             return [(0.0, "fredkin", inputs)]
-        ways: list[Way] = []
+        ways: list[MappingWay] = []
         for first, second in (inputs, inputs[::-1]):
             for one in (first, first ^ 1):
                 for two in (second, second ^ 1):
@@ -292,7 +292,7 @@ class Mapper:
                 ways.append((3 - gains, "switch_join", (first, second)))
         return ways
 
-    def map_xor_by_interact(self, number: int, left: Literal, right: Literal) -> None:
+    def map_xor_by_interact(self, number: int, left: NodeLiteral, right: NodeLiteral) -> None:
         """Maps a XOR node by an interaction and a join. A wire of `left` is consumed, and another one is the control.
         """
         product = self.claim_product(left, right)
@@ -302,15 +302,15 @@ class Mapper:
         both, right_alone, left_alone, again = self.add_gate("interact", None, [wire, other], 4)
         self.release_wire(product, both)
         self.release_wire(product, again)
-        found, select = self.borrow_wire(left)
+        found, select = self.borrow_wire_or_inverse(left)
         parts = [left_alone, right_alone] if found == left else [right_alone, left_alone]
         select, result = self.add_gate("unswitch", None, [select, *parts], 2, number)
         self.pool_of(found).append(select)
         self.pool_of(2 * number ^ (left & 1) ^ (right & 1)).append(result)
 
-    def map_xor_by_switches(self, number: int, left: Literal, right: Literal) -> None:
+    def map_xor_by_switches(self, number: int, left: NodeLiteral, right: NodeLiteral) -> None:
         """Maps a XOR node by two switches, over a wire and its inverse, and a join."""
-        found, select = self.borrow_wire(left)
+        found, select = self.borrow_wire_or_inverse(left)
         product, second = self.claim_product(found, right), self.claim_product(found ^ 1, right ^ 1)
         select, both, right_alone = self.add_gate("switch", None, [select, self.pool[right].pop()], 3)
         select, left_alone, neither = self.add_gate("switch", None, [select, self.pool[right ^ 1].pop()], 3)
@@ -320,12 +320,12 @@ class Mapper:
         self.release_wire(product, both)
         self.release_wire(second, neither)
 
-    def map_xor_by_fredkin(self, number: int, left: Literal, right: Literal) -> None:
+    def map_xor_by_fredkin(self, number: int, left: NodeLiteral, right: NodeLiteral) -> None:
         """Maps a XOR node by a Fredkin gate over a wire and its inverse."""
         while not (self.pool_of(right) and self.pool_of(right ^ 1)
                    and (self.node_wire_count(right) > 2 or not self.uses[right >> 1])):
             self.duplicate_wire(right if self.pool_of(right) else right ^ 1)
-        found, select = self.borrow_wire(left)
+        found, select = self.borrow_wire_or_inverse(left)
         ins = [select, self.pool[right ^ 1].pop(), self.pool[right].pop()]
         select, result, inverse = self.add_gate("fredkin", None, ins, 3)
         self.pool_of(found).append(select)
@@ -334,27 +334,27 @@ class Mapper:
 
     # ---- join
 
-    def join_ways(self, number: int, inputs: tuple[Literal, ...]) -> list[Way]:
+    def join_ways(self, number: int, inputs: tuple[NodeLiteral, ...]) -> list[MappingWay]:
         """Returns the way to map a join."""
         return [(0.0, "inverse_product" if number in self.separate else "join", inputs)]
 
-    def map_join_by_unswitch(self, number: int, select: Literal, high: Literal, low: Literal) -> None:
+    def map_join_by_unswitch(self, number: int, select: NodeLiteral, high: NodeLiteral, low: NodeLiteral) -> None:
         """Maps a join by an `unswitch`. The control may be inverted."""
         # The control can be one of the two parts, so a wire of it must stay.
         self.uses[select >> 1] += 1
         parts = [self.take_wire(high), self.take_wire(low)]
         self.uses[select >> 1] -= 1
-        found, control = self.borrow_wire(select)
+        found, control = self.borrow_wire_or_inverse(select)
         control, result = self.add_gate("unswitch", None, [control, *(parts if found == select else parts[::-1])], 2,
                                         number)
         self.pool_of(found).append(control)
         self.pool_of(2 * number).append(result)
 
-    def map_join_as_product(self, number: int, _select: Literal, high: Literal, low: Literal) -> None:
+    def map_join_as_product(self, number: int, _select: NodeLiteral, high: NodeLiteral, low: NodeLiteral) -> None:
         """Maps a join as "not (not high and not low)"."""
         second = self.claim_product(high, low ^ 1)
         wire = self.take_wire(low ^ 1)
-        found, control = self.borrow_wire(high)
+        found, control = self.borrow_wire_or_inverse(high)
         control, one, two = self.add_gate("switch", None, [control, wire], 3)
         product, rest = (two, one) if found == high else (one, two)
         self.pool_of(found).append(control)

@@ -4,7 +4,7 @@ import re
 
 from .model import MAX_PORTS, LogicNetlist, NetlistError, TableNode
 
-NUMBER = re.compile(r"[0-9]{1,9}\Z")
+COUNT_PATTERN = re.compile(r"[0-9]{1,9}\Z")
 SKIPPED_KEYWORDS = {".p", ".phase", ".pair", ".mv"}
 PLA_TYPES = {"f", "fd", "fr", "fdr"}
 
@@ -22,7 +22,7 @@ class PlaReader:
         """Reads one line."""
         keyword = words[0]
         if keyword in (".i", ".o"):
-            if len(words) != 2 or not NUMBER.match(words[1]) or int(words[1]) > MAX_PORTS:
+            if len(words) != 2 or not COUNT_PATTERN.match(words[1]) or int(words[1]) > MAX_PORTS:
                 raise NetlistError(f"Line {number}: `{keyword}` takes a number, at most {MAX_PORTS}.")
             self.counts[keyword] = int(words[1])
         elif keyword in (".ilb", ".ob"):
@@ -46,7 +46,7 @@ class PlaReader:
                                "`1`, `-` and `~`.")
         self.rows.append((product, values))
 
-    def finish(self) -> LogicNetlist:
+    def finish_netlist(self) -> LogicNetlist:
         """Returns the netlist. An output that no row asks for is 0; values that do not matter are 0 too."""
         if ".i" not in self.counts or ".o" not in self.counts:
             raise NetlistError("A PLA has the lines `.i` and `.o`.")
@@ -72,4 +72,4 @@ def read_pla(text: str) -> LogicNetlist:
             break
         if words:
             reader.read_line(number, words)
-    return reader.finish()
+    return reader.finish_netlist()

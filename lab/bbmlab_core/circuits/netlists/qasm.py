@@ -7,34 +7,34 @@ from dataclasses import dataclass
 from typing import Iterator
 
 from .model import MAX_PORTS, NetlistError
-from .reversible import Control, LineBuilder, LineNetlist, require_distinct
+from .reversible import Control, ReversibleNetlist, ReversibleNetlistBuilder, require_distinct_lines
 
-COMMENT = re.compile(r"//[^\n]*|/\*.*?\*/", re.DOTALL)
+COMMENT_PATTERN = re.compile(r"//[^\n]*|/\*.*?\*/", re.DOTALL)
 # The gates that are known: how many controls each has, and how many targets.
 KNOWN_GATES = {"x": (0, 1), "cx": (1, 1), "CX": (1, 1), "cnot": (1, 1), "ccx": (2, 1), "toffoli": (2, 1), "c3x": (3, 1),
                "c4x": (4, 1), "swap": (0, 2), "cswap": (1, 2), "fredkin": (1, 2), "id": (0, 1)}
-REGISTER = re.compile(r"(?:(qreg|creg)\s+(\w+)\s*\[\s*(\d+)\s*\]|(qubit|bit)\s*(?:\[\s*(\d+)\s*\])?\s*(\w+))\Z")
-MEASURE = re.compile(r"(?:measure\s+(.+?)\s*->\s*(.+)|(.+?)\s*=\s*measure\s+(.+))\Z", re.DOTALL)
-CALL = re.compile(r"((?:(?:neg)?ctrl(?:\s*\(\s*\d+\s*\))?\s*@\s*)*)(\w+)\s*(\([^)]*\))?\s+(.+)\Z", re.DOTALL)
-CONTROL_MODIFIER = re.compile(r"(neg)?ctrl(?:\s*\(\s*(\d+)\s*\))?\s*@")
-DEFINITION = re.compile(r"gate\s+(\w+)\s*(\([^)]*\))?\s*([\w\s,]+?)\s*\{(.*)\}\Z", re.DOTALL)
-OPERAND = re.compile(r"(\w+)(?:\s*\[\s*(\d+)\s*\])?\Z")
-MAX_DEPTH = 64
+REGISTER_PATTERN = re.compile(r"(?:(qreg|creg)\s+(\w+)\s*\[\s*(\d+)\s*\]|(qubit|bit)\s*(?:\[\s*(\d+)\s*\])?\s*(\w+))\Z")
+MEASUREMENT_PATTERN = re.compile(r"(?:measure\s+(.+?)\s*->\s*(.+)|(.+?)\s*=\s*measure\s+(.+))\Z", re.DOTALL)
+CALL_PATTERN = re.compile(r"((?:(?:neg)?ctrl(?:\s*\(\s*\d+\s*\))?\s*@\s*)*)(\w+)\s*(\([^)]*\))?\s+(.+)\Z", re.DOTALL)
+CONTROL_MODIFIER_PATTERN = re.compile(r"(neg)?ctrl(?:\s*\(\s*(\d+)\s*\))?\s*@")
+DEFINITION_PATTERN = re.compile(r"gate\s+(\w+)\s*(\([^)]*\))?\s*([\w\s,]+?)\s*\{(.*)\}\Z", re.DOTALL)
+OPERAND_PATTERN = re.compile(r"(\w+)(?:\s*\[\s*(\d+)\s*\])?\Z")
+MAX_CALL_DEPTH = 64
 MAX_CALLS = 200_000
 MAX_DEFINITIONS = 10_000
 
 
 @dataclass(frozen=True)
-class Definition:
+class GateDefinition:
     """A gate of the file: its arguments, and its statements with their lines."""
 
     arguments: list[str]
     body: list[tuple[int, str]]
 
 
-def statements(text: str, first: int = 1) -> Iterator[tuple[int, str]]:
+def numbered_statements(text: str, first: int = 1) -> Iterator[tuple[int, str]]:
     """Yields each statement with the number of its line. A block in braces belongs to the statement before it."""
-    text = COMMENT.sub(lambda found: re.sub(r"[^\n]", " ", found[0]), text)
+    text = COMMENT_PATTERN.sub(lambda found: re.sub(r"[^\n]", " ", found[0]), text)
     start = depth = 0
     # The line at which the next statement can begin: counted on, since counting from the first line each time takes
     # quadratic time.
@@ -56,10 +56,10 @@ class QasmReader:
     """Reads the statements of a file."""
 
     def __init__(self) -> None:
-        self.builder = LineBuilder()
+        self.builder = ReversibleNetlistBuilder()
         self.registers: dict[str, list[str]] = {}
         self.bits: dict[str, list[str]] = {}
-        self.definitions: dict[str, Definition] = {}
+        self.definitions: dict[str, GateDefinition] = {}
         self.measured: dict[str, str] = {}
         self.touched: set[str] = set()
         self.zeros: set[str] = set()
@@ -71,15 +71,15 @@ class QasmReader:
         keyword = (re.match(r"\w+", words) or [""])[0]
         if keyword in ("OPENQASM", "include", "barrier"):
             return
-        if (register := REGISTER.match(words)) is not None:
+        if (register := REGISTER_PATTERN.match(words)) is not None:
             self.add_register(number, register)
-        elif (definition := DEFINITION.match(words)) is not None:
+        elif (definition := DEFINITION_PATTERN.match(words)) is not None:
             self.define_gate(number, definition)
-        elif (measure := MEASURE.match(words)) is not None:
+        elif (measure := MEASUREMENT_PATTERN.match(words)) is not None:
             self.note_measurement(number, measure[1] or measure[4], measure[2] or measure[3])
         elif keyword == "reset":
             self.read_reset(number, words[5:].strip())
-        elif (call := CALL.match(words)) is not None and "{" not in words:
+        elif (call := CALL_PATTERN.match(words)) is not None and "{" not in words:
             self.add_broadcast_calls(number, call)
         else:
             raise NetlistError(f"Line {number}: `{words[:40]}` is no statement that bits can follow.")
@@ -101,13 +101,13 @@ class QasmReader:
             raise NetlistError(f"Line {number}: the gate `{name}` has an angle, and no bits can compute it.")
         if len(self.definitions) >= MAX_DEFINITIONS:
             raise NetlistError(f"Line {number}: more than {MAX_DEFINITIONS} gates are defined.")
-        self.definitions[name] = Definition(arguments, list(statements(found[4], number)))
+        self.definitions[name] = GateDefinition(arguments, list(numbered_statements(found[4], number)))
 
-    def operands(self, number: int, words: str, registers: dict[str, list[str]]) -> list[list[str]]:
+    def elements_of_operands(self, number: int, words: str, registers: dict[str, list[str]]) -> list[list[str]]:
         """Returns the elements of each operand."""
         result = []
         for word in words.split(","):
-            found = OPERAND.match(word.strip())
+            found = OPERAND_PATTERN.match(word.strip())
             names = registers.get(found[1]) if found else None
             if found is None or names is None:
                 raise NetlistError(f"Line {number}: `{word.strip()[:40]}` is no register.")
@@ -118,14 +118,15 @@ class QasmReader:
 
     def note_measurement(self, number: int, qubits: str, bits: str) -> None:
         """Notes the bits that hold lines at the end."""
-        [lines], [names] = self.operands(number, qubits, self.registers), self.operands(number, bits, self.bits)
+        [lines] = self.elements_of_operands(number, qubits, self.registers)
+        [names] = self.elements_of_operands(number, bits, self.bits)
         if len(lines) != len(names):
             raise NetlistError(f"Line {number}: {len(lines)} qubits and {len(names)} bits.")
         self.measured.update(zip(lines, names))
 
     def read_reset(self, number: int, words: str) -> None:
         """Makes lines constants 0, before any gate acts on them."""
-        for line in [line for lines in self.operands(number, words, self.registers) for line in lines]:
+        for line in [line for lines in self.elements_of_operands(number, words, self.registers) for line in lines]:
             if line in self.touched:
                 raise NetlistError(f"Line {number}: `reset` of `{line}` after a gate loses its bit, which no "
                                    "reversible gate does.")
@@ -133,7 +134,7 @@ class QasmReader:
 
     def add_broadcast_calls(self, number: int, found: re.Match[str]) -> None:
         """Adds a call, for each place of registers that are named as a whole."""
-        operands = self.operands(number, found[4], self.registers)
+        operands = self.elements_of_operands(number, found[4], self.registers)
         sizes = {len(lines) for lines in operands if len(lines) > 1}
         if len(sizes) > 1:
             raise NetlistError(f"Line {number}: the registers have {' and '.join(map(str, sorted(sizes)))} elements.")
@@ -148,11 +149,11 @@ class QasmReader:
         if late is not None:
             raise NetlistError(f"Line {number}: a gate acts on `{late}` after it was measured.")
         self.calls += 1
-        if depth > MAX_DEPTH or self.calls > MAX_CALLS:
+        if depth > MAX_CALL_DEPTH or self.calls > MAX_CALLS:
             raise NetlistError(f"Line {number}: the definitions of gates call too many others.")
-        require_distinct(number, lines)
+        require_distinct_lines(number, lines)
         controls: list[Control] = []
-        for is_negative, count in CONTROL_MODIFIER.findall(modifiers):
+        for is_negative, count in CONTROL_MODIFIER_PATTERN.findall(modifiers):
             taken, lines = lines[:int(count or 1)], lines[int(count or 1):]
             controls += [(line, not is_negative) for line in taken]
         if name in self.definitions and not controls:
@@ -160,14 +161,14 @@ class QasmReader:
         else:
             self.add_gate(number, name, controls, lines, bool(angles.strip("() ")))
 
-    def add_definition_calls(self, number: int, definition: Definition, lines: list[str], depth: int) -> None:
+    def add_definition_calls(self, number: int, definition: GateDefinition, lines: list[str], depth: int) -> None:
         """Adds the calls of a gate's definition."""
         if len(lines) != len(definition.arguments):
             raise NetlistError(f"Line {number}: the gate takes {len(definition.arguments)} qubits, and {len(lines)} "
                                "are named.")
         names = dict(zip(definition.arguments, lines))
         for inner, words in definition.body:
-            found = CALL.match(words)
+            found = CALL_PATTERN.match(words)
             if words.startswith("barrier"):
                 continue
             arguments = [word.strip() for word in found[4].split(",")] if found else []
@@ -188,7 +189,7 @@ class QasmReader:
             self.todo.append((controls + [(line, True) for line in lines[:own]], "swap" if targets == 2 else "x",
                               lines[own:]))
 
-    def finish(self) -> LineNetlist:
+    def finish_netlist(self) -> ReversibleNetlist:
         """Returns the netlist. Without a measurement each qubit is an output."""
         for line in (line for lines in self.registers.values() for line in lines):
             if line in self.zeros:
@@ -205,12 +206,12 @@ class QasmReader:
         if len(set(self.measured.values())) != len(self.measured):
             raise NetlistError("Two qubits are measured into one bit.")
         ends = {line: self.measured.get(line) if self.measured else line for line in self.builder.netlist.lines}
-        return self.builder.finish(ends)
+        return self.builder.finish_netlist(ends)
 
 
-def read_qasm(text: str) -> LineNetlist:
+def read_qasm(text: str) -> ReversibleNetlist:
     """Returns the netlist of an OpenQASM file. Raises NetlistError at the first statement that bits cannot follow."""
     reader = QasmReader()
-    for number, words in statements(text):
+    for number, words in numbered_statements(text):
         reader.read_statement(number, words)
-    return reader.finish()
+    return reader.finish_netlist()

@@ -4,19 +4,19 @@ import re
 from typing import Iterator
 
 from .model import MAX_PORTS, NetlistError
-from .reversible import Control, LineBuilder, LineNetlist, require_distinct
+from .reversible import Control, ReversibleNetlist, ReversibleNetlistBuilder, require_distinct_lines
 
-GATE_WORD = re.compile(r"(t|f)([1-9][0-9]*)\Z")
-WORD = re.compile(r'"([^"]*)"|(\S+)')
+GATE_WORD_PATTERN = re.compile(r"(t|f)([1-9][0-9]*)\Z")
+WORD_PATTERN = re.compile(r'"([^"]*)"|(\S+)')
 QUANTUM_GATES = {"v": "a square root of NOT", "v+": "a square root of NOT", "h": "a Hadamard gate", "q": "a rotation",
                  "rx": "a rotation", "ry": "a rotation", "rz": "a rotation"}
 SKIPPED_KEYWORDS = {".version", ".inputbus", ".outputbus", ".state", ".specification"}
 
 
-def word_lines(text: str) -> Iterator[tuple[int, list[str]]]:
+def numbered_word_lines(text: str) -> Iterator[tuple[int, list[str]]]:
     """Yields the number and the words of each line that has words. A name in quotes is one word."""
     for number, line in enumerate(text.split("\n"), 1):
-        words = [quoted or plain for quoted, plain in WORD.findall(line.split("#")[0])]
+        words = [quoted or plain for quoted, plain in WORD_PATTERN.findall(line.split("#")[0])]
         if words:
             yield number, words
 
@@ -26,7 +26,7 @@ class RealReader:
 
     def __init__(self) -> None:
         self.heads: dict[str, list[str]] = {}
-        self.builder = LineBuilder()
+        self.builder = ReversibleNetlistBuilder()
         self.variables: list[str] = []
         self.has_begun = self.has_ended = False
 
@@ -62,8 +62,8 @@ class RealReader:
             raise NetlistError(f"Line {number}: there are {count} variables. A circuit has at most {MAX_PORTS} wires.")
         if len(set(self.variables)) != count:
             raise NetlistError(f"Line {number}: a variable is named twice.")
-        constants = self.variable_signs(number, ".constants", "01-")
-        inputs = self.variable_names(number, ".inputs")
+        constants = self.header_signs(number, ".constants", "01-")
+        inputs = self.header_names(number, ".inputs")
         for line, name, sign in zip(self.variables, inputs, constants):
             if sign == "-":
                 self.builder.add_input(line, name)
@@ -72,7 +72,7 @@ class RealReader:
         if len(set(self.builder.netlist.inputs)) != len(self.builder.netlist.inputs):
             raise NetlistError(f"Line {number}: an input is named twice.")
 
-    def variable_signs(self, number: int, keyword: str, allowed: str) -> str:
+    def header_signs(self, number: int, keyword: str, allowed: str) -> str:
         """Returns a sign for each variable, `-` if the line is missing."""
         signs = "".join(self.heads.get(keyword, [])) or "-" * len(self.variables)
         if len(signs) != len(self.variables) or set(signs) - set(allowed):
@@ -80,7 +80,7 @@ class RealReader:
                                "for each variable.")
         return signs
 
-    def variable_names(self, number: int, keyword: str) -> list[str]:
+    def header_names(self, number: int, keyword: str) -> list[str]:
         """Returns a name for each variable: its own if the line is missing."""
         names = self.heads.get(keyword) or self.variables
         if len(names) != len(self.variables):
@@ -95,8 +95,8 @@ class RealReader:
                                "can compute.")
         controls = [self.control_of(number, word) for word in words]
         lines = [line for line, _ in controls]
-        require_distinct(number, lines)
-        found = GATE_WORD.match(keyword)
+        require_distinct_lines(number, lines)
+        found = GATE_WORD_PATTERN.match(keyword)
         targets = 2 if found and found[1] == "f" else 1
         if keyword in ("p", "p3", "pi") and len(words) == 3:
             self.add_peres(keyword == "pi", controls)
@@ -129,25 +129,25 @@ class RealReader:
             raise NetlistError(f"Line {number}: `{word}` is no variable.")
         return line, line == word
 
-    def finish(self, last: int) -> LineNetlist:
+    def finish_netlist(self, last: int) -> ReversibleNetlist:
         """Returns the netlist after the last line."""
         if not self.has_begun or not self.has_ended:
             raise NetlistError(f"Line {last}: the file ends without `.begin` and `.end`.")
-        garbage = self.variable_signs(last, ".garbage", "-1")
-        names = self.variable_names(last, ".outputs")
+        garbage = self.header_signs(last, ".garbage", "-1")
+        names = self.header_names(last, ".outputs")
         ends = {line: None if sign == "1" else name for line, name, sign in zip(self.variables, names, garbage)}
         kept = [name for name in ends.values() if name is not None]
         if len(set(kept)) != len(kept):
             raise NetlistError(f"Line {last}: an output is named twice.")
-        return self.builder.finish(ends)
+        return self.builder.finish_netlist(ends)
 
 
-def read_real(text: str) -> LineNetlist:
+def read_real(text: str) -> ReversibleNetlist:
     """Returns the netlist of a `.real` file.
 
     Raises NetlistError at the first line that is wrong or that no bits can compute.
     """
     reader, last = RealReader(), 1
-    for last, words in word_lines(text):
+    for last, words in numbered_word_lines(text):
         reader.read_line(last, words)
-    return reader.finish(last)
+    return reader.finish_netlist(last)

@@ -21,7 +21,7 @@ class Exchange:
 
 
 @dataclass
-class LineNetlist(LogicNetlist):
+class ReversibleNetlist(LogicNetlist):
     """A netlist that was made of gates on lines.
 
     `exchanges_if_all` has them if all only exchange lines, which is conservative.
@@ -34,11 +34,11 @@ class LineNetlist(LogicNetlist):
     exchanges_if_all: list[Exchange] | None = field(default_factory=list[Exchange])
 
 
-class LineBuilder:
+class ReversibleNetlistBuilder:
     """Adds gates to lines. A line's net is that of its value after the gates so far."""
 
     def __init__(self, name: str = "") -> None:
-        self.netlist = LineNetlist(name)
+        self.netlist = ReversibleNetlist(name)
         self.nets: dict[str, str] = {}
         self.made = 0
 
@@ -101,14 +101,14 @@ class LineBuilder:
             self.nets[first] = self.add_cell(CellType.MUX, one, other, condition)
             self.nets[second] = self.add_cell(CellType.MUX, other, one, condition)
 
-    def finish(self, ends: dict[str, str | None]) -> LineNetlist:
+    def finish_netlist(self, ends: dict[str, str | None]) -> ReversibleNetlist:
         """Returns the netlist. `ends` has the name of each line's output, or None for garbage."""
         self.netlist.output_names = ends
         self.netlist.outputs_with_nets = [(name, self.nets[line]) for line, name in ends.items() if name is not None]
         return self.netlist
 
 
-def require_distinct(number: int, lines: list[str]) -> None:
+def require_distinct_lines(number: int, lines: list[str]) -> None:
     """Raises NetlistError if a gate names a line twice."""
     twice = next((line for at, line in enumerate(lines) if line in lines[:at]), None)
     if twice is not None:

@@ -6,12 +6,12 @@ import random
 from ...texts.limits import SECOND_LIMITS
 from ..cones import cone_for_inverse_gate
 from .circuit_text import NamedCircuit, named_circuit
-from .graph import Graph
-from .mapping import Mapper, Preferences, MappedGates
+from .graph import LogicGraph
+from .mapping import Mapper, MappingPreferences, MappedGates
 from .model import NetlistError
 
-FIRST_TRIES = 20
-MAX_TRIES = 1000
+RANDOM_TRY_COUNT = 20
+MAX_MAPPING_TRIES = 1000
 # Tries times nodes and outputs: some seconds.
 MAX_NODE_TRIES = 40_000
 # One interaction gate makes three products, and no gate makes more.
@@ -26,30 +26,30 @@ def require_section_limits(gate_count: int, wire_count: int) -> None:
             raise NetlistError(f"The circuit would need {count} {what}. A circuit has at most {most}.")
 
 
-def cheapest_wiring(graph: Graph, separate: frozenset[int], size: int) -> MappedGates:
+def cheapest_wiring(graph: LogicGraph, separate: frozenset[int], size: int) -> MappedGates:
     """Returns the cheapest of some wirings: the best of some at random, improved by small changes of its preferences.
 
     The same graph gets the same wiring each time.
     """
-    chooser, tries = random.Random(1), max(2, min(MAX_TRIES, MAX_NODE_TRIES // max(1, size)))
+    chooser, tries = random.Random(1), max(2, min(MAX_MAPPING_TRIES, MAX_NODE_TRIES // max(1, size)))
 
-    def tried(preferences: Preferences) -> tuple[float, Preferences, MappedGates]:
+    def map_by_preferences(preferences: MappingPreferences) -> tuple[float, MappingPreferences, MappedGates]:
         """Returns the cost, the preferences and the wiring of a try."""
-        wiring = Mapper(graph, separate, preferences).run()
+        wiring = Mapper(graph, separate, preferences).map_needed_nodes()
         return wiring.cost(), preferences, wiring
 
-    first = min(tries, FIRST_TRIES)
-    cost, best, wiring = min((tried(Preferences.at_random(graph, chooser)) for _ in range(first)),
+    first = min(tries, RANDOM_TRY_COUNT)
+    cost, best, wiring = min((map_by_preferences(MappingPreferences.at_random(graph, chooser)) for _ in range(first)),
                              key=lambda found: found[0])
     if best.ranks:
         for _ in range(tries - first):
-            found = tried(best.with_small_change(chooser))
+            found = map_by_preferences(best.with_small_change(chooser))
             if found[0] <= cost:
                 cost, best, wiring = found
     return wiring
 
 
-def map_graph(graph: Graph) -> NamedCircuit:
+def map_graph(graph: LogicGraph) -> NamedCircuit:
     """Maps a graph. Raises NetlistError if the circuit does not fit the limits of a circuit section."""
     needed = graph.needed_nodes()
     if len(needed) > MAX_NEEDED_NODES:

@@ -32,7 +32,7 @@ def unrolled_netlist(netlist: LogicNetlist, cycles: int | None, has_state_ports:
                            "too many: all together "
                            f"have at most {MAX_NODES} nodes and {MAX_PORTS} ports.")
     return Unroller(replace(netlist, inputs=[name for name in netlist.inputs if name != clock]),
-                    order).run(cycles, has_state_ports)
+                    order).unroll_cycles(cycles, has_state_ports)
 
 
 def cycle_nodes(core: LogicNetlist, clock: str | None) -> list[Node]:
@@ -90,7 +90,7 @@ class Unroller:
         self.netlist, self.order = netlist, order
         self.result = LogicNetlist(netlist.name, notes=list(netlist.notes))
 
-    def run(self, cycles: int, has_state_ports: bool) -> LogicNetlist:
+    def unroll_cycles(self, cycles: int, has_state_ports: bool) -> LogicNetlist:
         """Returns the netlist of all cycles."""
         state = {latch.output: self.add_first_value(latch, has_state_ports) for latch in self.netlist.latches}
         for cycle in range(cycles):

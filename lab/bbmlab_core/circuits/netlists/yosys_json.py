@@ -9,8 +9,8 @@ from .model import MAX_PORTS, INPUT_PORTS, CellType, CellNode, Latch, LogicNetli
 
 MAX_LUT_WIDTH = 8
 SIMPLE_CELLS = {cell.value: cell for cell in CellType}
-STORING_CELL_TYPES = ("$_DFF", "$_SDFF", "$_ALDFF", "$_DLATCH", "$_SR", "$_FF_", "$dff", "$adff", "$sdff", "$dlatch",
-                      "$mem", "$ff", "$aldff")
+STORING_CELL_PREFIXES = ("$_DFF", "$_SDFF", "$_ALDFF", "$_DLATCH", "$_SR", "$_FF_", "$dff", "$adff", "$sdff", "$dlatch",
+                         "$mem", "$ff", "$aldff")
 # A flip-flop by its clock, with or without an enable or a reset at the edge of the clock: whether the enable comes
 # before the reset, and the polarities of clock, reset and enable, with the value of the reset.
 FLIP_FLOP_TYPE = re.compile(
@@ -20,7 +20,7 @@ ASYNCHRONOUS_CELL_TYPE = re.compile(r"\$_DFFE?_[NP][NP][01][NP]?_\Z|\$_ALDFF|\$_
 FLATTENING_ADVICE = "Make a flat netlist of simple cells with `synth -flatten; abc -g AND,XOR,MUX` in yosys."
 
 
-def member(value: Any, name: str, kind: type, where: str) -> Any:
+def require_member(value: Any, name: str, kind: type, where: str) -> Any:
     """Returns a member of a JSON object, if it is there and of its kind."""
     found = value.get(name) if isinstance(value, dict) else None
     if not isinstance(found, kind):
@@ -30,8 +30,9 @@ def member(value: Any, name: str, kind: type, where: str) -> Any:
 
 def top_module(document: Any) -> tuple[str, Any]:
     """Returns the name and the object of the top module: the one with the attribute `top`, or the only one."""
-    modules = member(document, "modules", dict, "the document")
-    tops = [name for name, module in modules.items() if isinstance(module, dict) and is_top(module.get("attributes"))]
+    modules = require_member(document, "modules", dict, "the document")
+    tops = [name for name, module in modules.items() if isinstance(module, dict)
+            and has_top_attribute(module.get("attributes"))]
     names = tops or list(modules)
     if len(names) != 1:
         raise NetlistError(f"The JSON has {len(names)} modules and no single top module. Flatten the design, and keep "
@@ -39,7 +40,7 @@ def top_module(document: Any) -> tuple[str, Any]:
     return names[0], modules[names[0]]
 
 
-def is_top(attributes: Any) -> bool:
+def has_top_attribute(attributes: Any) -> bool:
     """Whether the attributes of a module say that it is the top."""
     value = attributes.get("top", 0) if isinstance(attributes, dict) else 0
     return bool(value.strip("0")) if isinstance(value, str) else bool(value)
@@ -68,10 +69,10 @@ class ModuleReader:
 
     def read_ports(self) -> None:
         """Reads the ports. A bit of a port with more bits gets the port's name and its number."""
-        ports = member(self.module, "ports", dict, f"the module `{self.netlist.name}`")
+        ports = require_member(self.module, "ports", dict, f"the module `{self.netlist.name}`")
         for name, port in ports.items():
-            direction, bits = member(port, "direction", str,
-                                     f"the port `{name}`"), member(port, "bits", list, f"the port `{name}`")
+            direction = require_member(port, "direction", str, f"the port `{name}`")
+            bits = require_member(port, "bits", list, f"the port `{name}`")
             if direction not in ("input", "output"):
                 raise NetlistError(f"The port `{name}` is `{direction}`. A port of a circuit is an input or an output.")
             if len(bits) > MAX_PORTS:
@@ -93,8 +94,8 @@ class ModuleReader:
 
     def read_cells(self) -> None:
         """Reads the cells."""
-        for name, cell in member(self.module, "cells", dict, f"the module `{self.netlist.name}`").items():
-            kind = member(cell, "type", str, f"the cell `{name}`")
+        for name, cell in require_member(self.module, "cells", dict, f"the module `{self.netlist.name}`").items():
+            kind = require_member(cell, "type", str, f"the cell `{name}`")
             if kind in SIMPLE_CELLS:
                 simple = SIMPLE_CELLS[kind]
                 inputs = tuple(self.port_nets(cell, name, port, 1)[0] for port in INPUT_PORTS[simple])
@@ -107,13 +108,13 @@ class ModuleReader:
             elif ASYNCHRONOUS_CELL_TYPE.match(kind):
                 raise NetlistError(f"The cell `{name}` is `{kind}`, which is set without its clock. Use `async2sync` "
                                    "in yosys before `synth`.")
-            elif kind.startswith(STORING_CELL_TYPES):
+            elif kind.startswith(STORING_CELL_PREFIXES):
                 raise NetlistError(f"The cell `{name}` is `{kind}`, which stores a bit and is no simple flip-flop such "
                                    f"as `$_DFF_P_`. {FLATTENING_ADVICE}")
             elif kind != "$scopeinfo":
                 raise NetlistError(f"The cell `{name}` is `{kind}`, which is no simple cell. {FLATTENING_ADVICE}")
 
-    def name_latches(self) -> None:
+    def set_latch_names_and_starts(self) -> None:
         """Gives each flip-flop the name and the first value of the net that it drives. Names that yosys made come last.
         """
         nets, latches = self.module.get("netnames", {}), self.netlist.latches
@@ -165,15 +166,15 @@ class ModuleReader:
 
     def port_nets(self, cell: Any, name: str, port: str, width: int) -> list[str]:
         """Returns the nets of a cell's port, which has `width` bits."""
-        bits = member(member(cell, "connections", dict, f"the cell `{name}`"), port, list,
-                      f"the connections of `{name}`")
+        bits = require_member(require_member(cell, "connections", dict, f"the cell `{name}`"), port, list,
+                              f"the connections of `{name}`")
         if len(bits) != width:
             raise NetlistError(f"The port `{port}` of the cell `{name}` has {len(bits)} bits in place of {width}.")
         return [self.ensure_net(bit, f"The port `{port}` of the cell `{name}`") for bit in bits]
 
     def read_lut(self, name: str, cell: Any) -> None:
         """Reads a cell `$lut`: bit I of the parameter LUT is the output at the inputs that make the number I."""
-        parameters = member(cell, "parameters", dict, f"the cell `{name}`")
+        parameters = require_member(cell, "parameters", dict, f"the cell `{name}`")
         try:
             width, table = parameter_number(parameters["WIDTH"]), parameter_number(parameters["LUT"])
             bits = parameters["LUT"] if isinstance(parameters["LUT"], str) else f"{table:b}"
@@ -222,5 +223,5 @@ def read_yosys_json(text: str) -> LogicNetlist:
     reader = ModuleReader(*top_module(document))
     reader.read_ports()
     reader.read_cells()
-    reader.name_latches()
+    reader.set_latch_names_and_starts()
     return reader.netlist
