@@ -5,7 +5,8 @@ import unittest
 from typing import Iterable
 
 import support  # noqa: F401
-from bbmlab_core.joining.flight_claims import DIRECTION_BY_STEP, FlightClaims, pop_flight_ranges, ranges_without_claims
+from bbmlab_core.joining.flight_claims import (DIRECTION_BY_NUMBER_STEP, FlightClaims, pop_flight_ranges,
+                                               ranges_without_claims)
 from bbmlab_core.joining.lone_ways import PackedBalls
 from bbmlab_core.joining.parts import BlockClaimCounts, part_footprint
 from bbmlab_core.route.balls import Ball
@@ -18,7 +19,8 @@ SIDE, STEPS = 12, 12
 
 def some_flight(chance: random.Random) -> range:
     """Returns a flight in any direction. At a time, all blocks are in even columns and rows, or all in odd ones."""
-    time, step, count = chance.randrange(STEPS), chance.choice([*DIRECTION_BY_STEP]), chance.choice((1, 1, 2, 5, 20))
+    time, step = chance.randrange(STEPS), chance.choice([*DIRECTION_BY_NUMBER_STEP])
+    count = chance.choice((1, 1, 2, 5, 20))
     x, y = (64 + 2 * chance.randrange(SIDE // 2) + time % 2 for _ in range(2))
     first = time * STEP_STRIDE + y * ROW_STRIDE + x
     return range(first, first + count * step, step)

@@ -216,7 +216,7 @@ class Json(unittest.TestCase):
             text = golly.golly_text(document.layout, live, ["p"], lines)
             with self.subTest(name):
                 self.assertEqual(golly.layout_text_from_golly(text), "\n".join(lines) + "\n")
-                self.assertEqual(golly.live_cells(golly.golly_states_and_comments(text)[0]), live)
+                self.assertEqual(golly.live_cells(golly.read_golly_states(text)[0]), live)
 
     def test_same_states_as_golly(self) -> None:
         """Golly's run of a pattern file has our live cells at each of some times."""
@@ -250,7 +250,7 @@ def golly_run(document: support.Document, on: list[str], time: int) -> set:
                             "-o", str(after), str(before)], check=True, capture_output=True)
         # bgolly does not write where the pattern lies; its dead margin stays as it was.
         place = f"#CXRLE Pos={-golly.DEAD_MARGIN_CELLS},{-golly.DEAD_MARGIN_CELLS}\n"
-        return golly.live_cells(golly.golly_states_and_comments(place + after.read_text())[0])
+        return golly.live_cells(golly.read_golly_states(place + after.read_text())[0])
 
 
 class Pictures(unittest.TestCase):

@@ -21,7 +21,7 @@ except ImportError as missing:
 
 import properties as pr  # noqa: E402
 from bbmlab_core import cli  # noqa: E402
-from bbmlab_core.pictures.golly import (golly_states_and_comments, golly_text, layout_text_from_golly,  # noqa: E402
+from bbmlab_core.pictures.golly import (read_golly_states, golly_text, layout_text_from_golly,  # noqa: E402
                                         live_cells)
 from bbmlab_core.texts.documents import read_document  # noqa: E402
 from bbmlab_core.texts.json_form import document_json_text, text_from_json  # noqa: E402
@@ -105,7 +105,7 @@ class RoundTrips(unittest.TestCase):
         assert model
         form = golly_text(model, set(start), sorted(on), text.splitlines())
         self.assertEqual(layout_text_from_golly(form), text)
-        self.assertEqual(live_cells(golly_states_and_comments(form)[0]), set(start))
+        self.assertEqual(live_cells(read_golly_states(form)[0]), set(start))
         bare = "\n".join(line for line in form.splitlines() if not line.startswith("#C ")) + "\n"
         again = bbmlab.read(layout_text_from_golly(bare)).layout
         assert again

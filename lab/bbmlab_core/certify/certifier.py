@@ -66,7 +66,7 @@ class CertificateMaker:
         self.observer.require_quiet_rim()
         # What the user should know of the certificate.
         self.notes: list[str] = []
-        self.stops = self.user_or_delay_stops()
+        self.stops = self.given_or_delay_stops()
         self.ports = {key_of(port.cell): port.name for port in layout.ins + layout.outs}
         # The modules of each rectangle that was tried, or why it has none.
         self.known: dict[Box, list[ModuleDraft] | str] = {}
@@ -264,7 +264,7 @@ class CertificateMaker:
 
     # ---- stops
 
-    def user_or_delay_stops(self) -> list[Stop]:
+    def given_or_delay_stops(self) -> list[Stop]:
         """Returns the user's stops if all of them hold and show the delays, and else stops for the delays."""
         if not self.plan.stops:
             return self.delay_stops()

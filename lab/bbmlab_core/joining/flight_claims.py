@@ -14,9 +14,9 @@ from typing import Collection, Container, Iterable, Iterator, NamedTuple
 from ..route.world import ROW_STRIDE, ROW_BITS, STEP_STRIDE
 
 # The directions of flights by the difference of the numbers of two blocks that follow one another.
-DIRECTION_BY_STEP = {STEP_STRIDE + dy * ROW_STRIDE + dx: (dx, dy) for dx in (1, -1) for dy in (1, -1)}
+DIRECTION_BY_NUMBER_STEP = {STEP_STRIDE + dy * ROW_STRIDE + dx: (dx, dy) for dx in (1, -1) for dy in (1, -1)}
 # Any direction, for a single block.
-SINGLE_BLOCK_STEP = next(iter(DIRECTION_BY_STEP))
+SINGLE_BLOCK_STEP = next(iter(DIRECTION_BY_NUMBER_STEP))
 
 
 class Flight(NamedTuple):
@@ -36,8 +36,8 @@ class Flight(NamedTuple):
 
 
 def flight_of_range(blocks: range) -> Flight:
-    """Returns the flight of blocks that follow one another by a step of `DIRECTION_BY_STEP`."""
-    number, (dx, dy) = blocks.start, DIRECTION_BY_STEP[blocks.step]
+    """Returns the flight of blocks that follow one another by a step of `DIRECTION_BY_NUMBER_STEP`."""
+    number, (dx, dy) = blocks.start, DIRECTION_BY_NUMBER_STEP[blocks.step]
     time = number // STEP_STRIDE
     return Flight((dx, dy), (number & ROW_STRIDE - 1) - dx * time, (number >> ROW_BITS & ROW_STRIDE - 1) - dy * time,
                   time, time + len(blocks))
@@ -45,7 +45,7 @@ def flight_of_range(blocks: range) -> Flight:
 
 def flights_of_blocks(part: Iterable[int]) -> Iterator[Flight]:
     """Yields flights with the blocks of a part: one if it is a range of such blocks, else one for each block."""
-    if isinstance(part, range) and part.step in DIRECTION_BY_STEP:
+    if isinstance(part, range) and part.step in DIRECTION_BY_NUMBER_STEP:
         yield flight_of_range(part)
     else:
         yield from (flight_of_range(range(number, number + 1, SINGLE_BLOCK_STEP)) for number in part)
@@ -55,7 +55,7 @@ def pop_flight_ranges(claims: set[int]) -> Iterator[range]:
     """Yields flights that together have some blocks at times, each once. The set is empty afterwards."""
     for number in sorted(claims):
         if number in claims:
-            flight = max((longest_claimed_range(number, step, claims) for step in DIRECTION_BY_STEP), key=len)
+            flight = max((longest_claimed_range(number, step, claims) for step in DIRECTION_BY_NUMBER_STEP), key=len)
             claims.difference_update(flight)
             yield flight
 
@@ -117,7 +117,7 @@ class FlightClaims:
     """Blocks at times that are claimed, as flights. What is added is taken away by the same parts."""
 
     def __init__(self) -> None:
-        self.tables = {direction: FlightTable() for direction in DIRECTION_BY_STEP.values()}
+        self.tables = {direction: FlightTable() for direction in DIRECTION_BY_NUMBER_STEP.values()}
         self.count = 0
 
     def __len__(self) -> int:

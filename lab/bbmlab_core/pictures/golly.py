@@ -50,7 +50,7 @@ def golly_text(layout: Layout, live: set[Cell], on: list[str], lines: list[str])
                       f"x = {len(columns)}, y = {len(rows)}, rule = {GOLLY_RULE_NAME}", body + "!"]) + "\n"
 
 
-def golly_states_and_comments(text: str) -> tuple[dict[Cell, int], list[str]]:
+def read_golly_states(text: str) -> tuple[dict[Cell, int], list[str]]:
     """Returns the states of the cells of an RLE file that are not 0, and the layout's lines in its comments."""
     corner, comments, body, header = (0, 0), [], "", None
     for line in text.splitlines():
@@ -109,7 +109,7 @@ def live_cells(states: dict[Cell, int]) -> set[Cell]:
 
 def layout_text_from_golly(text: str) -> str:
     """Returns a layout section: that of the file's comments, or one in which each live cell is a ball."""
-    states, comments = golly_states_and_comments(text)
+    states, comments = read_golly_states(text)
     if comments:
         section = "\n".join(comments) + "\n"
         refusal = read_document(section, "layout").refusal

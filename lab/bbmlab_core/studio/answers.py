@@ -74,7 +74,7 @@ class Answers:
             "spelling": self.spelled_text,
             "cells": self.cells_answer, "template": self.template_answer, "verdict": self.run_job,
             "explain": self.run_job, "export": self.run_job, "route": self.begin_routing,
-            "connect": self.begin_connection,
+            "connect": self.begin_search_between_ports,
             "routed": self.search_state, "unroute": self.cancel_search}
         if name not in known:
             raise Denied(404, "there is no such request")
@@ -156,7 +156,7 @@ class Answers:
         """Begins a search for a layout of the circuit of a text."""
         return self.begin_search(body, None)
 
-    def begin_connection(self, body: JsonObject) -> JsonObject:
+    def begin_search_between_ports(self, body: JsonObject) -> JsonObject:
         """Begins to lead the ball of an output of a text to an input."""
         return self.begin_search(body, (text_member(body, "output"), text_member(body, "input")))
 

@@ -15,7 +15,7 @@ const stage = new Stage(player, stageElements), minimap = new Minimap(stage, ele
 const reportEntries = pageData.explanation ? pageData.explanation.entries : [];
 const addressLimits = { steps: layout.steps, names: player.names, faults: reportEntries.length };
 // The buttons of the report, which of them is shown, and timers.
-const pageState = { buttons: [], entry: null, addressTimer: 0, speechTimer: 0, place: null };
+const reportAndPointer = { buttons: [], entry: null, addressTimer: 0, speechTimer: 0, place: null };
 // How long the page waits after a change before it is spoken, and before it is written to the address, in milliseconds.
 const SPEECH_DELAY = 600, ADDRESS_DELAY = 250, PAN_STEP = 40;
 // Larger layouts show the ways at first: their cells are too small to be seen.
@@ -23,9 +23,9 @@ const LARGE_LAYOUT_SIDE = 512, MAX_TIMES = 6;
 
 /** Says the state to who can't see it: when it has been still for a while, and not while it plays. */
 function speakSoon() {
-  clearTimeout(pageState.speechTimer);
+  clearTimeout(reportAndPointer.speechTimer);
   if (player.direction !== 0) return;
-  pageState.speechTimer = setTimeout(() => {
+  reportAndPointer.speechTimer = setTimeout(() => {
     const words = [`Time ${player.run.time} of ${layout.steps}.`, elementById("status").textContent,
       panels.outputSummary(player)];
     if (player.own) words.push(elementById("beside-title").textContent, stage.differenceWords());
@@ -37,7 +37,7 @@ function speakSoon() {
 function addressState() {
   const on = player.names.filter((name) => player.on.has(name));
   const isFirst = on.length === player.first.length && player.first.every((name) => player.on.has(name));
-  const { entry } = pageState, { time } = player.run;
+  const { entry } = reportAndPointer, { time } = player.run;
   return { time: time > 0 || entry !== null ? time : undefined, on: isFirst && entry === null ? undefined : on,
     zoom: stage.isFit ? undefined : stage.scaleAndCentre(), fault: entry === null ? undefined
       : entry + 1, trails: stage.hasTrails ? undefined : false };
@@ -45,9 +45,9 @@ function addressState() {
 
 /** Writes the state to the address when it has been still for a while: browsers refuse to do it often. */
 function writeAddressSoon() {
-  clearTimeout(pageState.addressTimer);
+  clearTimeout(reportAndPointer.addressTimer);
   if (player.direction !== 0) return;
-  pageState.addressTimer = setTimeout(() => {
+  reportAndPointer.addressTimer = setTimeout(() => {
     const text = address.addressFragment(addressState()), [page] = location.href.split("#");
     // A page that a frame shows may have no address of its own.
     try { history.replaceState(null, "", text ? `${page}#${text}` : page); } catch { return; }
@@ -91,14 +91,14 @@ function showPlayButtons() {
 
 /** Shows the cell under the pointer with what there is. */
 function showPointedCellWords() {
-  stage.pointed = pageState.place ? stage.cellAt(...pageState.place) : stage.mark;
+  stage.pointed = reportAndPointer.place ? stage.cellAt(...reportAndPointer.place) : stage.mark;
   stage.showCellWords(elementById("cell"), stage.pointed);
 }
 
 /** Lets the wire under the pointer stand out, or none while the picture moves. */
 function highlightPointedWire(isMoving) {
-  const found = pageState.place && !isMoving && stage.cellAt(...pageState.place) ? stage.wireAt(...pageState.place)
-    : null;
+  const { place } = reportAndPointer, isShown = place && !isMoving && stage.cellAt(...place);
+  const found = isShown ? stage.wireAt(...place) : null;
   stage.pointedWire = found && found.wire;
   showWireWords(found);
 }
@@ -113,7 +113,7 @@ function showWireWords(found) {
 /** Shows all ways of the wire whose name was typed, or says that there is none. */
 function showTypedWire() {
   const name = elementById("find-wire-name").value.trim(), wire = stage.wires.byName.get(name);
-  pageState.place = null;
+  reportAndPointer.place = null;
   highlightPointedWire(false);
   if (name === "") {
     stage.showWire(null);
@@ -134,7 +134,7 @@ function showTypedWire() {
 function goToCell(x, y) {
   if (x >= layout.width || y >= layout.height) return;
   stage.mark = [x, y];
-  pageState.place = null;
+  reportAndPointer.place = null;
   stage.lookAt([x + 0.5, y + 0.5], null);
   showPointedCellWords();
   if (innerWidth <= 800) elementById("whole").scrollIntoView({ block: "nearest" });
@@ -172,8 +172,8 @@ function closeModuleRun() {
 
 /** Notes which line of the report is shown: its button is pressed. */
 function markReportEntry(number) {
-  pageState.entry = number;
-  pageState.buttons.forEach((button, index) => button.setAttribute("aria-pressed", String(index === number)));
+  reportAndPointer.entry = number;
+  reportAndPointer.buttons.forEach((button, index) => button.setAttribute("aria-pressed", String(index === number)));
 }
 
 /** Shows no line of the report. */
@@ -207,11 +207,11 @@ function showReportEntry(number) {
 function goToNextFault(direction) {
   const faults = reportEntries.flatMap((entry, number) => (entry.is_against ? [number] : []));
   if (faults.length === 0) return;
-  const at = faults.indexOf(pageState.entry);
+  const at = faults.indexOf(reportAndPointer.entry);
   const number = faults[at < 0 ? (direction > 0 ? 0 : faults.length - 1)
     : (at + direction + faults.length) % faults.length];
   showReportEntry(number);
-  pageState.buttons[number].scrollIntoView({ block: "nearest" });
+  reportAndPointer.buttons[number].scrollIntoView({ block: "nearest" });
   if (innerWidth <= 800) elementById("whole").scrollIntoView({ block: "nearest" });
 }
 
@@ -309,7 +309,7 @@ function listenToFingers(canvas) {
 function listenToPointers() {
   const { whole, wave } = stageElements;
   const point = (event) => {
-    pageState.place = [event.offsetX, event.offsetY];
+    reportAndPointer.place = [event.offsetX, event.offsetY];
     highlightPointedWire(event.buttons !== 0);
     showPointedCellWords();
     stage.requestPaint();
@@ -318,7 +318,7 @@ function listenToPointers() {
   whole.addEventListener("pointerdown", point);
   whole.addEventListener("pointerleave", (event) => {
     if (event.pointerType !== "mouse") return;
-    pageState.place = null;
+    reportAndPointer.place = null;
     highlightPointedWire(false);
     stage.requestPaint();
   });
@@ -412,7 +412,7 @@ listenToChanges();
 applySpeedSlider();
 showPlayButtons();
 if (panels.showVerdict(pageData.explanation, player.modules.length > 0))
-    pageState.buttons = panels.showReport(pageData.explanation, (number) => {
+    reportAndPointer.buttons = panels.showReport(pageData.explanation, (number) => {
       showReportEntry(number);
       if (innerWidth <= 800) elementById("whole").scrollIntoView({ block: "nearest" });
     }, goToCell);

@@ -12,7 +12,7 @@ SKIPPED_KEYWORDS = {".attr", ".param", ".cname", ".area", ".delay", ".wire_load_
                     ".output_required", ".default_output_required", ".input_drive", ".default_input_drive",
                     ".output_load", ".default_output_load", ".max_input_load", ".default_max_input_load", ".clock"}
 # The types of latches that change at an edge of their clock, and those that do not.
-LATCH_EDGES = {"re": "rising edge", "fe": "falling edge"}
+EDGE_LATCH_WORDS = {"re": "rising edge", "fe": "falling edge"}
 LATCH_LEVELS = {"ah": "while its control is 1", "al": "while its control is 0", "as": "without a clock"}
 REFUSED_KEYWORDS = {
     ".mlatch": "a latch of a library. Write it with `.latch`",
@@ -94,10 +94,10 @@ class BlifReader:
             raise NetlistError(f"Line {number}: the latch `{words[1]}` changes {LATCH_LEVELS[words[2]]} (`{words[2]}`)."
                                " Those at an edge are read, `re` and `fe`.")
         if len(words) == 4:
-            if words[2] not in LATCH_EDGES:
+            if words[2] not in EDGE_LATCH_WORDS:
                 raise NetlistError(f"Line {number}: `{words[2]}` is no type of a latch. They are `re`, `fe`, `ah`, "
                                    "`al` and `as`.")
-            clock = None if words[3] == "NIL" else (words[3], LATCH_EDGES[words[2]])
+            clock = None if words[3] == "NIL" else (words[3], EDGE_LATCH_WORDS[words[2]])
         self.netlist.add_latch(Latch(words[1], words[1], words[0], {"0": False, "1": True}.get(init), clock))
 
     def read_row(self, number: int, words: list[str]) -> None:
