@@ -219,6 +219,17 @@ def file_argument_spec(about: str) -> tuple[list[str], dict[str, Any]]:
     return argument_spec("file", f"{about}, or - for standard input", metavar="FILE")
 
 
+def search_argument_specs(result: str, plane: str) -> list[tuple[list[str], dict[str, Any]]]:
+    """Returns the options of a search: its seed, which decides the result, the side of its plane, and its seconds."""
+    return [
+        argument_spec("--seed", f"another seed gives {result} (default: 1)", type=parse_positive_number, default=1,
+                      metavar="N"),
+        argument_spec("--size", f"the side of the {plane}, a multiple of 16 up to 4096 (default: as needed)",
+                      type=parse_positive_number, metavar="N"),
+        argument_spec("--effort", "how long to search (default: 60)", type=parse_seconds, default=60.0,
+                      metavar="SECONDS")]
+
+
 # For each command the module of `commands` with its function if that is not `run`, what it does, the words of an
 # example, and the arguments.
 COMMANDS: dict[str, tuple[str, str, str, list[Any]]] = {
@@ -350,12 +361,7 @@ COMMANDS: dict[str, tuple[str, str, str, list[Any]]] = {
     "route": ("route", "Place and route a circuit: a layout of balls and mirrors, with a certificate.",
               "route circuit.txt -o bundle.txt", [
         file_argument_spec(ABOUT_CIRCUIT_FILE), OUTPUT_OPTION, *NETLIST_OPTIONS,
-        argument_spec("--seed", "another seed gives another layout (default: 1)", type=parse_positive_number, default=1,
-                      metavar="N"),
-        argument_spec("--size", "the side of the layout, a multiple of 16 up to 4096 (default: as needed)",
-                      type=parse_positive_number, metavar="N"),
-        argument_spec("--effort", "how long to search (default: 60)", type=parse_seconds, default=60.0,
-                      metavar="SECONDS"),
+        *search_argument_specs("another layout", "layout"),
         argument_spec("--jobs", "attempts at a time, each in a process (default: 1)", type=parse_positive_number,
                       default=1, metavar="N"),
         flag_spec("--compact", "go on with ever smaller planes, until no attempt on one finds a route"),
@@ -375,13 +381,7 @@ COMMANDS: dict[str, tuple[str, str, str, list[Any]]] = {
         argument_spec("--connect", "lead an output of a part to an input of another", action="extend", nargs="+",
                       default=[], metavar="A.OUT=B.IN"),
         OUTPUT_OPTION,
-        argument_spec("--seed", "another seed gives other paths (default: 1)", type=parse_positive_number, default=1,
-                      metavar="N"),
-        argument_spec("--size", "the side of the plane, a multiple of 16 up to 4096 (default: as needed)",
-                      type=parse_positive_number, metavar="N"),
-        argument_spec("--effort", "how long to search (default: 60)", type=parse_seconds, default=60.0,
-                      metavar="SECONDS"),
-        *PROGRAM_OPTIONS]),
+        *search_argument_specs("other paths", "plane"), *PROGRAM_OPTIONS]),
     "cells": ("cells", "List the standard cells with their ports, or show one of them.",
               "cells fredkin --svg -o fredkin.svg", [
         argument_spec("cell", "the name of a cell (default: list all)", nargs="?", metavar="NAME"),
